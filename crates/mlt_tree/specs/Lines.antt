@@ -1,0 +1,33 @@
+-- The lines that a person is told, each whole and with its end.
+use Rattle.std.specs.Prelude.{ℕ, List, [], ◌∷◌, ◌++◌, Option, None, Some, codes, decimal}
+use Rattle.mlt_base.specs.declared.port.Port.{Port}
+use Rattle.mlt_base.specs.declared.port.Port.TheVariants.{Video, Audio, Script, Text}
+use Rattle.mlt_tree.specs.declared.refusal.Cause.{Cause}
+use Rattle.mlt_tree.specs.declared.refusal.Cause.TheVariants.{Unsupported, BadValue, NoProducer}
+use Rattle.mlt_tree.specs.declared.refusal.Refusal.{Refusal}
+
+abbrev pub cause_text : Cause → List ℕ
+cause_text Unsupported = codes "option not supported"
+cause_text BadValue = codes "bad value"
+cause_text NoProducer = codes "nothing to play"
+
+-- the place within the file that a word names, where there is one
+abbrev pub inner_text : Option ℕ → List ℕ
+inner_text None = []
+inner_text (Some place) = codes "in file word " ++ (decimal place ++ codes ": ")
+
+abbrev pub refusal_line : Refusal → List ℕ
+refusal_line r =
+    codes "melt: word " ++ (decimal r.word ++ (codes ": " ++ (inner_text r.inner ++ (cause_text r.cause ++ codes "\n"))))
+
+abbrev pub port_text : Port → List ℕ
+port_text Video = codes "video"
+port_text Audio = codes "audio"
+port_text Script = codes "script"
+port_text Text = codes "text"
+
+abbrev pub sink_line : Port → List ℕ
+sink_line port = codes "melt: cannot write " ++ (port_text port ++ codes "\n")
+
+abbrev pub memory_line : List ℕ
+memory_line = codes "melt: out of memory\n"

@@ -1,0 +1,87 @@
+-- What is played, and the bytes that it gives.
+use Rattle.std.specs.Prelude.{ℕ, ◌+◌, ◌-◌, ◌*◌, zero, suc, List, [], ◌∷◌, ◌++◌, length, Option, None, Some, unwrap_or, slice_get}
+use Rattle.mlt_base.specs.Colour.{Pixel}
+use Rattle.mlt_tree.specs.Picture.{plain, clear, over_black}
+use Rattle.mlt_tree.specs.Tree.{Tree, Matter, Pictures, mean, needs}
+
+-- the width and height of a frame, in pixels
+pub record Size : Type 0 where
+  pub width : ℕ
+  pub height : ℕ
+
+-- frames a second, as a fraction
+pub record Fraction : Type 0 where
+  pub num : ℕ
+  pub den : ℕ
+
+-- what a source holds
+pub data Source : Type 0 where
+  Plain : Pixel → Source
+
+-- how the pixels of a picture are written
+pub data Pix : Type 0 where
+  -- laid over black, three bytes a pixel
+  Rgb : Pix
+  -- as they are, four bytes a pixel
+  Rgba : Pix
+
+-- where the frames go, and which
+pub record Settings : Type 0 where
+  pub video : List ℕ
+  pub pix : Pix
+  pub first : ℕ
+  pub last : ℕ
+
+-- a composition with its sources, the frames' size and rate, and the output settings
+pub record Show : Type 0 where
+  pub size : Size
+  pub rate : Fraction
+  pub sources : List Source
+  pub tree : Tree
+  pub output : Settings
+
+abbrev pub pixels_of : Size → ℕ
+pixels_of size = size.width * size.height
+
+-- the picture of a source at this size
+abbrev pub source_picture : Size → Source → List ℕ
+source_picture size (Plain p) = plain (pixels_of size) p
+
+-- the picture of a source by its number, the same at every position; nothing is drawn for a missing one
+abbrev pub picture_of : Size → Option Source → List ℕ
+picture_of size None = clear (pixels_of size)
+picture_of size (Some source) = source_picture size source
+
+abbrev pub pictures : Show → Matter (List ℕ)
+pictures show = record { source = λ s n. picture_of show.size (slice_get show.sources s) }
+
+-- the picture of a position, nothing counting as transparent black
+abbrev pub picture_at : Show → ℕ → List ℕ
+picture_at show n = unwrap_or (mean Pictures (pictures show) show.tree n) (clear (pixels_of show.size))
+
+-- a picture as it is written
+abbrev pub packed : Pix → List ℕ → List ℕ
+packed Rgb picture = over_black picture
+packed Rgba picture = picture
+
+-- the bytes of a position's picture
+abbrev pub video_of : Show → ℕ → List ℕ
+video_of show n = packed show.output.pix (picture_at show n)
+
+-- how many positions are written
+abbrev pub frames_of : Show → ℕ
+frames_of show = show.output.last + 1 - show.output.first
+
+-- the bytes of the first so many positions, one after another
+abbrev pub video_front : Show → ℕ → List ℕ
+video_front show zero = []
+video_front show (suc count) = video_front show count ++ video_of show (show.output.first + count)
+
+-- the bytes of all of them
+abbrev pub video_bytes : Show → List ℕ
+video_bytes show = video_front show (frames_of show)
+
+-- how many source pictures the first so many positions are made of, together
+abbrev pub loads_to : Show → ℕ → ℕ
+loads_to show zero = 0
+loads_to show (suc count) = loads_to show count + length (needs show.tree (show.output.first + count))

@@ -1,0 +1,14 @@
+//! What a composition means: the plain types and the definitions that every contract above cites.
+//!
+//! The definitions stand in `specs/`, one subject each. A newcomer reads `Tree` (what a composition
+//! is and which picture it has at a position), then `Show` (the bytes of a run), `Reading` (what
+//! words mean) and `Lines` (what a person is told). They know nothing of stacks, buffers, workers or
+//! hosts. Below stands `mlt_base`; all crates that build, start or render a composition stand above.
+#![tactic(auto)]
+
+pub mod laws;
+pub mod refusal;
+pub mod tree;
+
+pub use refusal::{Cause, Refusal};
+pub use tree::{Hide, SourceKind};
