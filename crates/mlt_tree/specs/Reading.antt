@@ -9,7 +9,7 @@ use Rattle.mlt_tree.specs.declared.refusal.Cause.{Cause}
 use Rattle.mlt_tree.specs.declared.refusal.Cause.TheVariants.{Unsupported, BadValue, NoProducer}
 use Rattle.mlt_tree.specs.declared.refusal.Refusal.{Refusal}
 use Rattle.mlt_tree.specs.declared.tree.SourceKind.TheVariants.{Colour}
-use Rattle.mlt_tree.specs.Tree.{Tree, Src, Part, Seq, Rows, End, Then, NoTrack, Track}
+use Rattle.mlt_tree.specs.Tree.{Tree, Tracks, Src, Part, Seq, Rows, End, Then, NoTrack, Track}
 use Rattle.mlt_tree.specs.Show.{Show, Size, Fraction, Plain, Rgb, video_bytes}
 
 -- the files that words may name, by name
@@ -99,10 +99,13 @@ out_word word = do
 abbrev pub default_length : ℕ
 default_length = 15000
 
--- one track with the frames of one colour from 0 to last
+-- one track, with the frames of one colour from 0 to last
+abbrev pub one_track : ℕ → Tracks
+one_track last =
+    Track (Seq (Then (Part (Src 0 Colour (max default_length (last + 1))) 0 last) End)) (record { video = Bool.false; audio = Bool.false }) NoTrack
+
 abbrev pub one_clip : ℕ → Tree
-one_clip last =
-    Rows (Track (Seq (Then (Part (Src 0 Colour (max default_length (last + 1))) 0 last) End)) (record { video = Bool.false; audio = Bool.false }) NoTrack)
+one_clip last = Rows (one_track last)
 
 -- the show of one colour from 0 to last, under this name
 abbrev pub show_of : Frames → List ℕ → ℕ → Pixel → Show
@@ -118,18 +121,19 @@ abbrev pub colour_show : Frames → List ℕ → ℕ → Option Pixel → Readin
 colour_show frames name last None = refused BadValue 4
 colour_show frames name last (Some pixel) = Play (show_of frames name last pixel)
 
-abbrev pub clip_to : Frames → List ℕ → List ℕ → Option ℕ → Reading
-clip_to frames name value None = refused Unsupported 5
-clip_to frames name value (Some last) = colour_show frames name last (colour_of value)
+-- behind the clip's last frame
+abbrev pub after_out : Frames → List ℕ → List ℕ → ℕ → List (List ℕ) → Reading
+after_out frames name value last [] = colour_show frames name last (colour_of value)
+after_out frames name value last (word ∷ words) = refused Unsupported 6
+
+abbrev pub out_at : Frames → List ℕ → List ℕ → Option ℕ → List (List ℕ) → Reading
+out_at frames name value None words = refused Unsupported 5
+out_at frames name value (Some last) words = after_out frames name value last words
 
 -- behind the colour's word
 abbrev pub after_colour : Frames → List ℕ → List ℕ → List (List ℕ) → Reading
-after_colour frames name value [] = clip_to frames name value (Some (default_length - 1))
-after_colour frames name value (word ∷ []) = clip_to frames name value (out_word word)
-after_colour frames name value (word ∷ more ∷ words) = after_out (out_word word) where
-  after_out : Option ℕ → Reading
-  after_out None = refused Unsupported 5
-  after_out (Some last) = refused Unsupported 6
+after_colour frames name value [] = colour_show frames name (default_length - 1) (colour_of value)
+after_colour frames name value (word ∷ words) = out_at frames name value (out_word word) words
 
 abbrev pub colour_at : Frames → List ℕ → Option (List ℕ) → List (List ℕ) → Reading
 colour_at frames name None words = refused Unsupported 4
