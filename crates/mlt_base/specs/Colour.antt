@@ -16,7 +16,6 @@ opaque r g b = record { r = r; g = g; b = b; a = 255 }
 
 -- what the first gives goes on to the second; nothing where either gives nothing
 infixl 10 ◌>>=◌
-
 abbrev pub ◌>>=◌ : {A B : Type 0} → Option A → (A → Option B) → Option B
 None >>= f = None
 (Some x) >>= f = f x

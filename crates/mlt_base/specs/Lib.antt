@@ -1,1 +1,15 @@
 pub mod Colour
+pub mod Try
+pub mod Reading
+pub mod Cut
+pub mod Whole
+pub mod Decimal
+pub mod Time
+pub mod TimeParts
+pub mod Animation
+pub mod Geometry
+pub mod GeometryView
+pub mod Profile
+pub mod ProfileView
+pub mod Grammar
+pub mod Samples

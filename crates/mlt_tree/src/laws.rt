@@ -5,5 +5,4 @@ ghost use Rattle.mlt_tree.specs.Tree.{EndsAtItsLength};
 /// Past its length a tree has no picture and no sound, and needs no source.
 pub fn ends_at_its_length()
     ensures { EndsAtItsLength }
-{
-}
+{}

@@ -1,0 +1,11 @@
+mod Asked
+mod Blocks
+mod Clip
+mod Fronted
+mod Fronts
+mod Hosts
+mod Numbers
+mod Outcomes
+mod Painted
+mod Tallies
+mod Wrote

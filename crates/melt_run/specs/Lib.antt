@@ -1,0 +1,9 @@
+pub mod Outcome
+pub mod Pixels
+pub mod Play
+pub mod Prepared
+pub mod Runs
+pub mod Show
+pub mod Sources
+pub mod Status
+pub mod Words

@@ -1,0 +1,46 @@
+-- How a run ends, by cases.
+use Rattle.std.specs.Prelude.{ℕ, List, []}
+use Rattle.mlt_base.specs.declared.port.Port.{Port}
+use Rattle.mlt_tree.specs.declared.refusal.Refusal.{Refusal}
+use Rattle.mlt_tree.specs.Lines.{refusal_line, sink_line, memory_line}
+use Rattle.melt_run.specs.declared.status.Tally.{Tally}
+use Rattle.melt_run.specs.declared.status.Status.{Status}
+use Rattle.melt_run.specs.declared.status.Status.TheVariants.{Done, Refused, SinkFault, Memory}
+
+-- the exit status
+abbrev pub code_of : Status → ℕ
+code_of (Done tally) = 0
+code_of (Refused refusal) = 1
+code_of (SinkFault port tally) = 3
+code_of Memory = 4
+
+-- the line that tells a person, none where all is done
+abbrev pub line_of : Status → List ℕ
+line_of (Done tally) = []
+line_of (Refused refusal) = refusal_line refusal
+line_of (SinkFault port tally) = sink_line port
+line_of Memory = memory_line
+
+abbrev pub IfDone : Status → (Tally → Type 0) → Type 0
+IfDone (Done tally) P = P tally
+IfDone (Refused refusal) P = Unit {0}
+IfDone (SinkFault port tally) P = Unit {0}
+IfDone Memory P = Unit {0}
+
+abbrev pub IfRefused : Status → (Refusal → Type 0) → Type 0
+IfRefused (Done tally) P = Unit {0}
+IfRefused (Refused refusal) P = P refusal
+IfRefused (SinkFault port tally) P = Unit {0}
+IfRefused Memory P = Unit {0}
+
+abbrev pub IfSinkFault : Status → (Port → Tally → Type 0) → Type 0
+IfSinkFault (Done tally) P = Unit {0}
+IfSinkFault (Refused refusal) P = Unit {0}
+IfSinkFault (SinkFault port tally) P = P port tally
+IfSinkFault Memory P = Unit {0}
+
+abbrev pub IfMemory : Status → Type 0 → Type 0
+IfMemory (Done tally) P = Unit {0}
+IfMemory (Refused refusal) P = Unit {0}
+IfMemory (SinkFault port tally) P = Unit {0}
+IfMemory Memory P = P

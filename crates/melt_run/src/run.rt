@@ -1,0 +1,94 @@
+//! The top call.
+
+ghost use Rattle.std.specs.Prelude.{◌≡◌, ◌≢◌, ◌⊎◌, ◌≤◌};
+ghost use Rattle.mlt_base.specs.declared.port.Port.{Port};
+ghost use Rattle.mlt_base.specs.declared.port.Port.TheVariants.{Video, Text};
+ghost use Rattle.mlt_host.specs.Host.{OnlyPort};
+ghost use Rattle.mlt_tree.specs.declared.refusal.Refusal.{Refusal};
+ghost use Rattle.mlt_tree.specs.Reading as meaning;
+ghost use Rattle.mlt_tree.specs.Reading.{written};
+ghost use Rattle.melt_run.specs.Show.{texts};
+ghost use Rattle.melt_run.specs.Status.{line_of, IfDone, IfRefused, IfSinkFault, IfMemory};
+ghost use Rattle.melt_run.specs.Prepared.{Meant, loads_on};
+ghost use Rattle.melt_run.specs.Outcome.{IsWritten, IsWholeTally, FailsAt, Leaves, Tells, AsksFor, Keeps, MeetsNoFault, IsDoneOrMemory, IsAccepted, CreatesNothing};
+ghost use Rattle.melt_run.specs.Runs.{Runs, ChangesVideo};
+
+use crate::gate::Gate;
+use crate::line::fault_line;
+use crate::play::play_serial;
+use crate::prepared::{Prepared, prepare};
+use crate::status::Status;
+use mlt_base::Port;
+use mlt_host::Host;
+use std::alloc::Global;
+
+/// Plays what the words mean, and tells nobody.
+fn run<H: Host>(alloc: Global, words: &[String], host: &mut H) -> Status
+    ensures runs { Meant (texts words.now) (H.state host.old) (λ reading. Runs reading result (H.state host.old) (H.state host.new)) }
+    ensures untouched { IfRefused result (λ _. (H.state host.new).port Video ≡ (H.state host.old).port Video) }
+    ensures nothing { IfMemory result ((H.state host.new).port Video ≡ (H.state host.old).port Video) }
+    ensures asked { AsksFor result (loads_on (texts words.now) (H.state host.old).files) (H.state host.old) (H.state host.new) }
+    ensures rest { ChangesVideo (H.state host.old) (H.state host.new) }
+{
+    match prepare(alloc, words, host) {
+        Prepared::Play(show, table) => play_serial(alloc, show, table, host),
+        Prepared::Refused(refusal) => Status::Refused(refusal),
+        Prepared::Memory => Status::Memory,
+    }
+}
+
+/// Appends the run's line to the text that a person reads.
+fn tell<H: Host>(host: &mut H, status: &Status)
+    ensures line { Tells (line_of status.now) (H.state host.old) (H.state host.new) }
+    ensures never_falls { (H.state host.old).faults Text ≤ (H.state host.new).faults Text }
+    ensures rest { OnlyPort Text (H.state host.old) (H.state host.new) }
+{
+    let line = fault_line(status);
+    if !line.as_slice().is_empty() {
+        let _ = host.append(Port::Text, line.as_slice());
+    }
+}
+
+/// Plays what the words mean on the host: appends to each output the bytes of the composition at the
+/// positions from its first to its last, in order, and tells a person in one line where it could not.
+///
+/// `rt` is the runtime, which calls that wait take; nothing here waits, and the call returns.
+/// `Refused` is the refusal of the words, and `Memory` want of memory; no output is then created.
+/// `SinkFault` names the output whose create or append failed, with the accounts up to there.
+pub fn melt<R, H: Host, G: Gate>(
+    _rt: &R,
+    alloc: Global,
+    words: &[String],
+    host: &mut H,
+    _gate: &G,
+) -> Status
+    // Where it is done each output has its name and all of its bytes, acknowledged, and the accounts are exact.
+    ensures written { Meant (texts words.now) (H.state host.old) (λ reading. IfDone result (λ _.
+        (port : Port) → port ≢ Text → IsWritten (written reading port) ((H.state host.old).port port) ((H.state host.new).port port))) }
+    ensures tally { Meant (texts words.now) (H.state host.old) (λ reading. IfDone result (IsWholeTally reading)) }
+
+    // The words' refusal is answered exactly where they have one, up to memory, and creates nothing.
+    ensures refused { Meant (texts words.now) (H.state host.old) (λ reading. IfRefused result (λ refusal. reading ≡ meaning.Refused refusal)) }
+    ensures refused_always { Meant (texts words.now) (H.state host.old) (λ reading. (refusal : Refusal) →
+        reading ≡ meaning.Refused refusal → (result ≡ Status.Refused refusal) ⊎ (result ≡ Status.Memory)) }
+    ensures untouched { IfRefused result (λ _. CreatesNothing (H.state host.old) (H.state host.new)) }
+    ensures nothing { IfMemory result (CreatesNothing (H.state host.old) (H.state host.new)) }
+
+    // A fault comes only where the host failed, and says where.
+    ensures fault { Meant (texts words.now) (H.state host.old) (λ reading. IfSinkFault result (λ port tally.
+        FailsAt reading port tally (H.state host.old) (H.state host.new))) }
+    ensures complete { Meant (texts words.now) (H.state host.old) (λ reading. IsAccepted reading →
+        MeetsNoFault (H.state host.old) (H.state host.new) → IsDoneOrMemory result) }
+
+    // Whatever the answer, each output has a front of its bytes under its name, or is as before.
+    ensures front { Meant (texts words.now) (H.state host.old) (λ reading. (port : Port) → port ≢ Text →
+        Leaves (written reading port) ((H.state host.old).port port) ((H.state host.new).port port)) }
+
+    ensures line { Tells (line_of result) (H.state host.old) (H.state host.new) }
+    ensures asked { AsksFor result (loads_on (texts words.now) (H.state host.old).files) (H.state host.old) (H.state host.new) }
+    ensures rest { Meant (texts words.now) (H.state host.old) (λ reading. Keeps reading (H.state host.old) (H.state host.new)) }
+{
+    let status = run(alloc, words, host);
+    tell(host, &status);
+    status
+}

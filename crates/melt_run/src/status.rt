@@ -1,0 +1,46 @@
+//! How a run ended.
+
+ghost use Rattle.std.specs.Prelude.{◌≡◌};
+ghost use Rattle.melt_run.specs.Status.{code_of};
+
+use mlt_base::Port;
+use mlt_tree::Refusal;
+
+/// What a run has done: frames whose bytes were all appended, the pictures that they were made of, and
+/// the accounts of the output buffers, of which each that was handed out was taken or destroyed.
+#[derive(Clone, Copy, Debug, PartialEq, Eq)]
+pub struct Tally {
+    pub frames: u64,
+    pub loads: u64,
+    pub handed: u64,
+    pub taken: u64,
+    pub destroyed: u64,
+}
+
+/// How a run ended.
+#[derive(Clone, Copy, Debug, PartialEq, Eq)]
+pub enum Status {
+    /// Each output has all its bytes, acknowledged.
+    Done(Tally),
+    /// The words are refused; no output was created.
+    Refused(Refusal),
+    /// A port could not be created or written.
+    SinkFault(Port, Tally),
+    /// Memory was wanting.
+    Memory,
+}
+
+impl Status {
+    /// The program's exit status: 0 done, 1 refused, 2 a file that cannot be read, 3 an output that
+    /// cannot be written, 4 out of memory.
+    pub fn code(&self) -> u8
+        ensures { result ≡ code_of self.now }
+    {
+        match self {
+            Status::Done(_) => 0,
+            Status::Refused(_) => 1,
+            Status::SinkFault(..) => 3,
+            Status::Memory => 4,
+        }
+    }
+}

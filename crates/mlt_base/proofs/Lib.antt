@@ -1,0 +1,11 @@
+pub mod Below
+pub mod Decimals
+pub mod Groups
+pub mod Times
+pub mod Keys
+pub mod Forms
+pub mod WholeForms
+pub mod DecimalForms
+pub mod TimeForms
+pub mod Rising
+pub mod Values

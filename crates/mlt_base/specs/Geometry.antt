@@ -1,0 +1,98 @@
+-- Geometries: `X/Y:WxH` or `X/Y:WxH:O`, in pixels or hundredths of a profile's size.
+use Rattle.std.specs.Prelude.{ℕ, ◌+◌, ◌*◌, ◌/◌, min, max, ℤ, pos, negsuc, neg_ℤ, unsigned_abs, List, [], ◌∷◌, Option, Some, None, Result, Ok, Err, nat_le, if◌then◌else◌}
+use Rattle.mlt_base.specs.declared.fault.NumFault.{NumFault}
+use Rattle.mlt_base.specs.Whole.{whole}
+use Rattle.mlt_base.specs.Cut.{◌>>=◌, cut}
+
+-- where a picture goes: its left upper corner, its size in pixels, and its opacity in hundredths
+pub record Place : Type 0 where
+  pub x : ℤ
+  pub y : ℤ
+  pub width : ℕ
+  pub height : ℕ
+  pub opacity : ℕ
+
+-- ---- numbers in a range
+
+-- a whole number at most so far from 0
+abbrev pub near : ℕ → Result ℤ NumFault → Option ℤ
+near limit (Ok z) = if nat_le (unsigned_abs z) limit then Some z else None
+near limit (Err fault) = None
+
+-- a whole number from low on
+abbrev pub from_low : ℕ → Option ℤ → Option ℕ
+from_low low (Some (pos n)) = if nat_le low n then Some n else None
+from_low low (Some (negsuc n)) = None
+from_low low None = None
+
+unfoldable pub near_zero : ℕ → List ℕ → Option ℤ
+near_zero limit text = near limit (whole text)
+
+unfoldable pub counted : ℕ → ℕ → List ℕ → Option ℕ
+counted low high text = from_low low (near_zero high text)
+
+-- hundredths of a size, rounded towards 0
+abbrev pub hundredths : ℕ → ℤ → ℤ
+hundredths size (pos n) = pos (n * size / 100)
+hundredths size (negsuc n) = neg_ℤ (pos ((n + 1) * size / 100))
+
+-- ---- the fields; 37 is `%`
+
+-- where a picture begins along a size: in pixels, or in hundredths of the size
+abbrev pub offset_from : ℕ → List ℕ → Option (List ℕ × List ℕ) → Option ℤ
+offset_from size text None = near_zero 16384 text
+offset_from size text (Some (front, [])) = near_zero 1000 front >>= λ n. Some (hundredths size n)
+offset_from size text (Some (front, b ∷ rest)) = None
+
+unfoldable pub offset : ℕ → List ℕ → Option ℤ
+offset size text = offset_from size text (cut 37 text)
+
+-- how far it goes along a size
+abbrev pub extent_from : ℕ → List ℕ → Option (List ℕ × List ℕ) → Option ℕ
+extent_from size text None = counted 1 4096 text
+extent_from size text (Some (front, [])) = counted 1 1000 front >>= λ n. Some (max 1 (min 4096 (n * size / 100)))
+extent_from size text (Some (front, b ∷ rest)) = None
+
+unfoldable pub extent : ℕ → List ℕ → Option ℕ
+extent size text = extent_from size text (cut 37 text)
+
+-- ---- the whole; 47 is `/`, 44 is `,`, 58 is `:` and 120 is `x`
+
+-- X and Y, between which `,` may stand for `/`
+abbrev pub corner_cut : List ℕ → Option (List ℕ × List ℕ) → Option (List ℕ × List ℕ)
+corner_cut text (Some parts) = Some parts
+corner_cut text None = cut 44 text
+
+unfoldable pub corner : ℕ → ℕ → List ℕ → Option (ℤ × ℤ)
+corner width height text = do
+  parts ← corner_cut text (cut 47 text)
+  x ← offset width parts.0
+  y ← offset height parts.1
+  Some (x, y)
+
+-- W and H
+unfoldable pub area : ℕ → ℕ → List ℕ → Option (ℕ × ℕ)
+area width height text = do
+  parts ← cut 120 text
+  w ← extent width parts.0
+  h ← extent height parts.1
+  Some (w, h)
+
+-- W and H with O behind them, which is 100 where nothing is said
+abbrev pub area_from : ℕ → ℕ → List ℕ → Option (List ℕ × List ℕ) → Option (ℕ × ℕ × ℕ)
+area_from width height text None = area width height text >>= λ size. Some (size.0, size.1, 100)
+area_from width height text (Some (front, rest)) = do
+  size ← area width height front
+  opacity ← counted 0 100 rest
+  Some (size.0, size.1, opacity)
+
+unfoldable pub shape : ℕ → ℕ → List ℕ → Option (ℕ × ℕ × ℕ)
+shape width height text = area_from width height text (cut 58 text)
+
+-- a geometry in a profile of a width and a height
+unfoldable pub geometry : ℕ → ℕ → List ℕ → Option Place
+geometry width height text = do
+  halves ← cut 58 text
+  first ← corner width height halves.0
+  second ← shape width height halves.1
+  Some (record { x = first.0; y = first.1; width = second.0; height = second.1; opacity = second.2 })

@@ -1,0 +1,65 @@
+-- Profiles: a name of the table, or `WxH@num/den`.
+use Rattle.std.specs.Prelude.{ℕ, ◌*◌, Bool, List, length, Option, Some, None, nat_le, ◌==◌, ◌&&◌, if◌then◌else◌}
+use Rattle.std.specs.List.{find, before_first}
+use Rattle.std.specs.Str.{bytes_eq}
+use Rattle.mlt_base.specs.declared.table.NamedProfile.{NamedProfile}
+use Rattle.mlt_base.specs.declared.table.TheConstants.{PROFILES}
+use Rattle.mlt_base.specs.Reading.{number, digit_count}
+use Rattle.mlt_base.specs.Cut.{◌>>=◌, cut}
+
+-- the numbers of a profile: pixels, and num/den frames a second
+pub record Measures : Type 0 where
+  pub width : ℕ
+  pub height : ℕ
+  pub num : ℕ
+  pub den : ℕ
+
+-- ---- limits
+
+abbrev pub is_size : ℕ → Bool
+is_size n = nat_le 1 n && nat_le n 4096
+
+-- 1 to 1000 frames a second
+abbrev pub is_rate : ℕ → ℕ → Bool
+is_rate num den = nat_le 1 den && nat_le num 100000 && nat_le den num && nat_le num (1000 * den)
+
+unfoldable pub within : Measures → Option Measures
+within m = if is_size m.width && is_size m.height && is_rate m.num m.den then Some m else None
+
+-- ---- the spelled form
+
+-- digits alone, of a number up to a limit
+unfoldable pub field : ℕ → List ℕ → Option ℕ
+field limit text = if digit_count text == length text && nat_le (number text) limit then Some (number text) else None
+
+-- two such fields with a mark between them
+unfoldable pub pair : ℕ → ℕ → List ℕ → Option (ℕ × ℕ)
+pair mark limit text = do
+  parts ← cut mark text
+  first ← field limit parts.0
+  second ← field limit parts.1
+  Some (first, second)
+
+-- 64 is `@`, 120 is `x` and 47 is `/`
+unfoldable pub spelled : List ℕ → Option Measures
+spelled text = do
+  halves ← cut 64 text
+  size ← pair 120 4096 halves.0
+  rate ← pair 47 100000 halves.1
+  within (record { width = size.0; height = size.1; num = rate.0; den = rate.1 })
+
+-- ---- the table
+
+-- a row's name, which blanks, 32, fill up
+abbrev pub name_of : NamedProfile → List ℕ
+name_of row = before_first (λ b. b == 32) row.name
+
+abbrev pub is_named : List ℕ → NamedProfile → Bool
+is_named text row = bytes_eq (name_of row) text
+
+abbrev pub profile_from : List ℕ → Option NamedProfile → Option Measures
+profile_from text (Some row) = within (record { width = row.width; height = row.height; num = row.num; den = row.den })
+profile_from text None = spelled text
+
+unfoldable pub profile : List ℕ → Option Measures
+profile text = profile_from text (find (is_named text) PROFILES)

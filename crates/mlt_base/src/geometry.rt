@@ -1,0 +1,183 @@
+//! Where a picture goes in a frame, and how large and opaque it is there.
+
+ghost use Rattle.std.specs.Prelude.{◌≡◌, ℕ, ◌≤◌, ℤ, Option, IfSome, unsigned_abs};
+ghost use Rattle.std.specs.Option.{option_map};
+ghost use Rattle.mlt_base.specs.Cut.{cut};
+ghost use Rattle.mlt_base.specs.Geometry.{near_zero, counted, hundredths, offset_from, offset, extent_from, extent, corner_cut, corner, area, area_from, shape, geometry};
+
+use crate::profile::Profile;
+use crate::reading::cut;
+use crate::whole::whole_of;
+
+/// Where a picture goes in a frame: its left upper corner and its size, in pixels, and its opacity in
+/// hundredths, 0 to 100.
+///
+/// The corner may lie outside the frame, up to 40960 pixels from its left or upper edge. Width and
+/// height are 1 to 4096.
+#[derive(Clone, Copy, Debug)]
+pub struct Geometry {
+    pub x: i32,
+    pub y: i32,
+    pub width: u32,
+    pub height: u32,
+    pub opacity: u8,
+    pub ghost x_near: { unsigned_abs x ≤ 40960 },
+    pub ghost y_near: { unsigned_abs y ≤ 40960 },
+    pub ghost width_at_least_one: { 1 ≤ width },
+    pub ghost width_at_most: { width ≤ 4096 },
+    pub ghost height_at_least_one: { 1 ≤ height },
+    pub ghost height_at_most: { height ≤ 4096 },
+    pub ghost opacity_at_most: { opacity ≤ 100 },
+}
+
+/// A whole number at most so far from 0.
+#[tactic(auto, unfolding(crate::specs::Geometry::near_zero))]
+fn near_zero(limit: u32, text: &[u8]) -> Option<i32>
+    requires { limit ≤ 16384 }
+    ensures value { result ≡ near_zero limit text.now }
+    ensures near { IfSome result (λ n. unsigned_abs n ≤ limit) }
+{
+    match whole_of(text) {
+        Ok(n) if n.unsigned_abs() <= u64::from(limit) => Some(n as i32),
+        _ => None,
+    }
+}
+
+/// A whole number from low to high.
+#[tactic(auto, unfolding(crate::specs::Geometry::counted))]
+fn counted(low: u32, high: u32, text: &[u8]) -> Option<u32>
+    requires { high ≤ 16384 }
+    ensures value { result ≡ counted low high text.now }
+    ensures from { IfSome result (λ n. low ≤ n) }
+    ensures to { IfSome result (λ n. n ≤ high) }
+{
+    let n = near_zero(high, text)?;
+    if n >= 0 && n as u32 >= low {
+        Some(n as u32)
+    } else {
+        None
+    }
+}
+
+/// Hundredths of a size, rounded towards 0.
+fn hundredths(size: u32, n: i32) -> i32
+    requires small { unsigned_abs n ≤ 1000 }
+    requires sized { size ≤ 4096 }
+    ensures value { result ≡ hundredths size n }
+    ensures near { unsigned_abs result ≤ 40960 }
+{
+    let pixels = (n.unsigned_abs() * size / 100) as i32;
+    if n < 0 { -pixels } else { pixels }
+}
+
+/// Where a picture begins along a size: in pixels, or in hundredths of the size.
+#[tactic(auto, unfolding(crate::specs::Geometry::offset))]
+fn offset(size: u32, text: &[u8]) -> Option<i32>
+    requires { size ≤ 4096 }
+    ensures value { result ≡ offset size text.now }
+    ensures near { IfSome result (λ n. unsigned_abs n ≤ 40960) }
+{
+    match cut(b'%', text) {
+        None => near_zero(16384, text),
+        Some((front, [])) => Some(hundredths(size, near_zero(1000, front)?)),
+        Some(_) => None,
+    }
+}
+
+/// How far a picture goes along a size: in pixels, or in hundredths of the size.
+#[tactic(auto, unfolding(crate::specs::Geometry::extent))]
+fn extent(size: u32, text: &[u8]) -> Option<u32>
+    requires { size ≤ 4096 }
+    ensures value { result ≡ extent size text.now }
+    ensures from { IfSome result (λ n. 1 ≤ n) }
+    ensures to { IfSome result (λ n. n ≤ 4096) }
+{
+    match cut(b'%', text) {
+        None => counted(1, 4096, text),
+        Some((front, [])) => Some((counted(1, 1000, front)? * size / 100).min(4096).max(1)),
+        Some(_) => None,
+    }
+}
+
+/// Two texts around a `/`, or around a `,` where there is no `/`.
+fn corner_cut(text: &[u8]) -> Option<(&[u8], &[u8])>
+    ensures { option_map (λ x. (x.0.now, x.1.now)) result ≡ corner_cut text.now (cut 47 text.now) }
+{
+    match cut(b'/', text) {
+        Some(parts) => Some(parts),
+        None => cut(b',', text),
+    }
+}
+
+/// X and Y.
+#[tactic(auto, unfolding(crate::specs::Geometry::corner))]
+fn corner(width: u32, height: u32, text: &[u8]) -> Option<(i32, i32)>
+    requires width { width ≤ 4096 }
+    requires height { height ≤ 4096 }
+    ensures value { result ≡ corner width height text.now }
+    ensures x { IfSome result (λ n. unsigned_abs n.0 ≤ 40960) }
+    ensures y { IfSome result (λ n. unsigned_abs n.1 ≤ 40960) }
+{
+    let (x, y) = corner_cut(text)?;
+    Some((offset(width, x)?, offset(height, y)?))
+}
+
+/// W and H.
+#[tactic(auto, unfolding(crate::specs::Geometry::area))]
+fn area(width: u32, height: u32, text: &[u8]) -> Option<(u32, u32)>
+    requires width { width ≤ 4096 }
+    requires height { height ≤ 4096 }
+    ensures value { result ≡ area width height text.now }
+    ensures from { IfSome result (λ n. (1 ≤ n.0) × (1 ≤ n.1)) }
+    ensures to { IfSome result (λ n. (n.0 ≤ 4096) × (n.1 ≤ 4096)) }
+{
+    let (w, h) = cut(b'x', text)?;
+    Some((extent(width, w)?, extent(height, h)?))
+}
+
+/// W, H and O, which is 100 where nothing is said.
+#[tactic(auto, unfolding(crate::specs::Geometry::shape))]
+fn shape(width: u32, height: u32, text: &[u8]) -> Option<(u32, u32, u32)>
+    requires width { width ≤ 4096 }
+    requires height { height ≤ 4096 }
+    ensures value { result ≡ shape width height text.now }
+    ensures from { IfSome result (λ n. (1 ≤ n.0) × (1 ≤ n.1)) }
+    ensures to { IfSome result (λ n. (n.0 ≤ 4096) × (n.1 ≤ 4096) × (n.2 ≤ 100)) }
+{
+    match cut(b':', text) {
+        None => {
+            let (w, h) = area(width, height, text)?;
+            Some((w, h, 100))
+        }
+        Some((size, rest)) => {
+            let (w, h) = area(width, height, size)?;
+            Some((w, h, counted(0, 100, rest)?))
+        }
+    }
+}
+
+impl Geometry {
+    ghost use Rattle.mlt_base.specs.GeometryView.{place_of};
+
+    /// Reads a geometry, `X/Y:WxH` or `X/Y:WxH:O`, in a profile; `,` may stand for `/`.
+    ///
+    /// X and Y are whole numbers, -16384 to 16384, or hundredths of the profile's width and height with
+    /// a `%` behind them, -1000 to 1000; W and H are 1 to 4096, or 1 to 1000 hundredths, which are then
+    /// taken as at least 1 and at most 4096 pixels. O is 0 to 100, and 100 where it isn't given. `None`
+    /// comes where the text has no such form or a number is out of its range.
+    #[tactic(auto, unfolding(crate::specs::Geometry::geometry))]
+    pub fn read(text: &str, profile: &Profile) -> Option<Geometry>
+        ensures { option_map place_of result ≡ geometry profile.now.width profile.now.height text.now }
+    {
+        let (first, second) = cut(b':', text.as_bytes())?;
+        let (x, y) = corner(profile.width, profile.height, first)?;
+        let (width, height, opacity) = shape(profile.width, profile.height, second)?;
+        Some(Geometry {
+            x,
+            y,
+            width,
+            height,
+            opacity: opacity as u8,
+        })
+    }
+}

@@ -1,0 +1,45 @@
+//! What the readers of numbers accept, in the words of the grammars: laws that hold of every text.
+//!
+//! Each function here does nothing; its contract is the law, over the definitions that the readers
+//! meet exactly.
+
+ghost use Rattle.std.specs.Prelude.{◌≡◌, ℕ, ◌^◌, ◌<◌, ◌≤◌, ℤ, FitsSigned, List, [], ◌∷◌, ◌++◌, None, Result, Ok, Err};
+ghost use Rattle.std.specs.Int.{w64};
+ghost use Rattle.mlt_base.specs.declared.fault.NumFault.TheVariants.{TooLarge};
+ghost use Rattle.mlt_base.specs.Whole.{whole};
+ghost use Rattle.mlt_base.specs.Decimal.{decimal};
+ghost use Rattle.mlt_base.specs.Time.{Form, frames_of, time};
+ghost use Rattle.mlt_base.specs.declared.animation.Key.{Key};
+ghost use Rattle.mlt_base.specs.Animation.{Rises, between, value_at};
+ghost use Rattle.mlt_base.specs.Grammar.{IsWhole, IsDecimal, IsTime};
+
+/// Exactly the whole numbers that fit are read, each as itself; the others are too large.
+pub fn whole_numbers()
+    ensures accepted { (text : List ℕ) (z : ℤ) → IsWhole text z → FitsSigned w64 z → whole text ≡ Ok z }
+    ensures large { (text : List ℕ) (z : ℤ) → IsWhole text z → ¬ FitsSigned w64 z → whole text ≡ Err TooLarge }
+    ensures only { (text : List ℕ) (z : ℤ) → whole text ≡ Ok z → IsWhole text z × FitsSigned w64 z }
+{}
+
+/// Exactly the decimal numbers below 65536 are read, each as its 65536ths, rounded down; the others
+/// are too large.
+pub fn decimals()
+    ensures accepted { (text : List ℕ) (n : ℕ) → IsDecimal text n → n < 2 ^ 32 → decimal 0 text ≡ Ok n }
+    ensures large { (text : List ℕ) (n : ℕ) → IsDecimal text n → 2 ^ 32 ≤ n → decimal 0 text ≡ Err TooLarge }
+    ensures only { (text : List ℕ) (n : ℕ) → decimal 0 text ≡ Ok n → IsDecimal text n × (n < 2 ^ 32) }
+{}
+
+/// Exactly the times below frame 2^31 are read, each as the frame that its form means; the others are
+/// too large.
+pub fn times()
+    ensures accepted { (num den : ℕ) (text : List ℕ) (form : Form) → IsTime text form → frames_of num den form < 2 ^ 31 → time num den text ≡ Ok (frames_of num den form) }
+    ensures large { (num den : ℕ) (text : List ℕ) (form : Form) → IsTime text form → 2 ^ 31 ≤ frames_of num den form → time num den text ≡ Err TooLarge }
+    ensures only { (num den : ℕ) (text : List ℕ) (n : ℕ) → time num den text ≡ Ok n → (form : Form) × IsTime text form × (n ≡ frames_of num den form) × (n < 2 ^ 31) }
+{}
+
+/// Before its first key an animation has the first value, from its last key on the last one, and from
+/// one key to the next what lies between their values.
+pub fn animation_values()
+    ensures before { (a : Key) (keys : List Key) (p : ℕ) → p < a.frame → value_at (a ∷ keys) p ≡ a.value.0 }
+    ensures between { (front : List Key) (a b : Key) (back : List Key) (p : ℕ) → Rises None (front ++ a ∷ b ∷ back) → a.frame ≤ p → p < b.frame → value_at (front ++ a ∷ b ∷ back) p ≡ between a b p }
+    ensures behind { (front : List Key) (a : Key) (p : ℕ) → Rises None (front ++ a ∷ []) → a.frame ≤ p → value_at (front ++ a ∷ []) p ≡ a.value.0 }
+{}

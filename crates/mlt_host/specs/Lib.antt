@@ -1,0 +1,13 @@
+pub mod Host
+pub mod Ports
+pub mod Count
+pub mod Kept
+pub mod Files
+pub mod Failures
+pub mod InMemory
+pub mod MemHost
+pub mod CalmHost
+pub mod DiskFile
+pub mod FileName
+pub mod Outlet
+pub mod DiskHost

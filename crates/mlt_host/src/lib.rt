@@ -1,0 +1,29 @@
+//! The outside of a run: the files that it loads, the ports that it writes, and how often each of them
+//! has failed.
+//!
+//! Only `mlt_base` stands below this crate. What builds a composition loads files by a `Host`, and what
+//! plays one writes its ports; neither knows which host it has. `DiskHost` is the one of a program,
+//! `MemHost` and `CalmHost` keep all in memory, for tests and for proofs over every fault. Start reading
+//! at [`host`].
+#![tactic(auto)]
+
+pub mod calm_host;
+mod disk_file;
+pub mod disk_host;
+mod failures;
+mod file_name;
+mod files;
+pub mod host;
+mod kept;
+pub mod mem_host;
+mod outlet;
+mod ports;
+
+pub use calm_host::CalmHost;
+pub use disk_host::DiskHost;
+pub use host::{Failed, Host, LoadFault};
+pub use mem_host::MemHost;
+pub use mlt_base::Port;
+
+#[cfg(test)]
+mod tests;

@@ -1,0 +1,5 @@
+pub mod Class
+pub mod Counts
+pub mod Lease
+pub mod LeaseLends
+pub mod Tally

@@ -1,0 +1,14 @@
+//! A block of bytes of a fixed size, which owns its memory behind a pointer.
+//!
+//! Only std stands below. The pool of buffers stands above, and is the one crate that makes blocks.
+//! All raw pointers of the repository are in the five functions of the module `cells`, each proved by
+//! hand. Start reading at [`RawBlock`].
+#![tactic(auto)]
+
+pub mod block;
+pub(crate) mod cells;
+
+pub use block::RawBlock;
+
+#[cfg(test)]
+mod tests;
