@@ -5,7 +5,7 @@ use Rattle.mlt_tree.specs.Reading.{Files}
 use Rattle.mlt_host.specs.Host.{HostState}
 use Rattle.melt_run.specs.Prepared.{Asks, AsksForWords, loads_on}
 use Rattle.melt_run.specs.declared.prepared.Prepared.{Prepared}
-use Rattle.melt_run.specs.declared.prepared.Prepared.TheVariants.{Play, Refused, Memory}
+use Rattle.melt_run.specs.declared.prepared.Prepared.TheVariants.{Play, Text, Refused, Memory}
 
 pub asks_none : (host : HostState) → Asks [] host host
 asks_none host = go host.asked where
@@ -22,5 +22,6 @@ all_asked words host = subst (λ names. Asks names host host) (sym (no_loads wor
 
 pub asked : (prepared : Prepared) (words : List (List ℕ)) (host : HostState) → AsksForWords prepared words host host
 asked (Play show table) words host = all_asked words host
+asked (Text job) words host = all_asked words host
 asked (Refused refusal) words host = all_asked words host
 asked Memory words host = (0, asks_none host)

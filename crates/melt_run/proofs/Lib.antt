@@ -1,11 +1,12 @@
 mod Asked
 mod Blocks
-mod Clip
+mod Counted
 mod Fronted
-mod Fronts
 mod Hosts
-mod Numbers
+mod Lifts
+mod OneClip
 mod Outcomes
+mod Over
 mod Painted
 mod Tallies
 mod Wrote

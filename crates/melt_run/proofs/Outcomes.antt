@@ -11,7 +11,7 @@ use Rattle.melt_run.specs.declared.status.Status.{Status}
 use Rattle.melt_run.specs.declared.status.Status.TheVariants.{Done, Refused, SinkFault, Memory}
 use Rattle.melt_run.specs.Play.{fronted, IsCut, StopsAt, Stops, Plays}
 use Rattle.melt_run.specs.Outcome.{HasFrontOf, Leaves, Keeps}
-use Rattle.melt_run.specs.Runs.{Runs, ChangesVideo}
+use Rattle.melt_run.specs.Ends.{Ends, ChangesVideoAndText, ChangesText}
 
 -- what follows so many positions and a front of the next, up to a total
 abbrev Rest : Show → ℕ → ℕ → ℕ → Type 0
@@ -56,47 +56,40 @@ video_front_of show (SinkFault port tally) old new before now h = by h.2 where
   by (inr stops) = inr (if_some new (λ port cut. cut_front show tally.frames port stops.short cut) stops.cut)
 video_front_of show Memory old new before now h = inl h.0
 
--- a refusal leaves Video
-refused_same : (refusal : _) (status : Status) (a b : HostState) → Runs (meaning.Refused refusal) status a b → (b.port Video ≡ a.port Video) × (b.faults Video ≡ a.faults Video)
-refused_same refusal (Done tally) a b h = absurd h
-refused_same refusal (Refused other) a b h = (h.1, h.2)
-refused_same refusal (SinkFault port tally) a b h = absurd h
-refused_same refusal Memory a b h = h
-
 -- each port that is not the text
-pub front_is : (reading : Reading) (status : Status) (a b c : HostState) → Runs reading status a b → ChangesVideo a b → OnlyPort Text b c → (port : Port) → port ≢ Text → Leaves (written reading port) (a.port port) (c.port port)
-front_is (meaning.Play show) status a b c runs changes rest Video apart =
-    subst (λ port. Leaves (Some (wanted_of show)) (a.port Video) port) (sym (rest.other_ports Video apart)) (video_front_of show status _ _ _ _ runs)
-front_is (meaning.Play show) status a b c runs changes rest Audio apart = rest.other_ports Audio apart ∙ changes.other_ports Audio (λ e. cc)
-front_is (meaning.Play show) status a b c runs changes rest Script apart = rest.other_ports Script apart ∙ changes.other_ports Script (λ e. cc)
-front_is (meaning.Play show) status a b c runs changes rest Text apart = absurd (apart refl)
-front_is (meaning.Refused refusal) status a b c runs changes rest Video apart =
-    rest.other_ports Video apart ∙ (refused_same refusal status a b runs).0
-front_is (meaning.Refused refusal) status a b c runs changes rest Audio apart = rest.other_ports Audio apart ∙ changes.other_ports Audio (λ e. cc)
-front_is (meaning.Refused refusal) status a b c runs changes rest Script apart = rest.other_ports Script apart ∙ changes.other_ports Script (λ e. cc)
-front_is (meaning.Refused refusal) status a b c runs changes rest Text apart = absurd (apart refl)
+pub front_is : (reading : Reading) (status : Status) (a c : HostState) → Ends reading status a c → (port : Port) → port ≢ Text → Leaves (written reading port) (a.port port) (c.port port)
+front_is (meaning.Play show) status a c ends Video apart = video_front_of show status _ _ _ _ ends.plays
+front_is (meaning.Play show) status a c ends Audio apart = let rest = ends.rest in rest.other_ports Audio (λ e. cc) apart
+front_is (meaning.Play show) status a c ends Script apart = let rest = ends.rest in rest.other_ports Script (λ e. cc) apart
+front_is (meaning.Play show) status a c ends Text apart = absurd (apart refl)
+front_is (meaning.Print job) status a c ends port apart = let rest = ends.rest in rest.other_ports port apart
+front_is (meaning.Refused refusal) status a c ends port apart = let rest = ends.rest in rest.other_ports port apart
 
 same_le : (a b : ℕ) → b ≡ a → a ≤ b
 same_le a b e = omega arith
 
-faults_keep : (a b c : HostState) → ChangesVideo a b → OnlyPort Text b c → b.faults Text ≤ c.faults Text → (port : Port) → a.faults port ≤ c.faults port
-faults_keep a b c changes rest tells Video = let e = rest.other_faults Video (λ e. cc) in omega (arith, changes.video, e)
-faults_keep a b c changes rest tells Audio = same_le _ _ (rest.other_faults Audio (λ e. cc) ∙ changes.other_faults Audio (λ e. cc))
-faults_keep a b c changes rest tells Script = same_le _ _ (rest.other_faults Script (λ e. cc) ∙ changes.other_faults Script (λ e. cc))
-faults_keep a b c changes rest tells Text = let e = changes.other_faults Text (λ e. cc) in omega (arith, tells, e)
+both_keep : (a c : HostState) → ChangesVideoAndText a c → (port : Port) → a.faults port ≤ c.faults port
+both_keep a c rest Video = rest.video
+both_keep a c rest Audio = same_le _ _ (rest.other_faults Audio (λ e. cc) (λ e. cc))
+both_keep a c rest Script = same_le _ _ (rest.other_faults Script (λ e. cc) (λ e. cc))
+both_keep a c rest Text = rest.text
 
-others_keep : (reading : Reading) (status : Status) (a b c : HostState) → Runs reading status a b → ChangesVideo a b → OnlyPort Text b c → (port : Port) → port ≢ Text → written reading port ≡ None → c.faults port ≡ a.faults port
-others_keep (meaning.Play show) status a b c runs changes rest Video apart none = cc
-others_keep (meaning.Refused refusal) status a b c runs changes rest Video apart none =
-    rest.other_faults Video apart ∙ (refused_same refusal status a b runs).1
-others_keep reading status a b c runs changes rest Audio apart none = rest.other_faults Audio apart ∙ changes.other_faults Audio (λ e. cc)
-others_keep reading status a b c runs changes rest Script apart none = rest.other_faults Script apart ∙ changes.other_faults Script (λ e. cc)
-others_keep reading status a b c runs changes rest Text apart none = absurd (apart refl)
+text_keeps : (a c : HostState) → ChangesText a c → (port : Port) → a.faults port ≤ c.faults port
+text_keeps a c rest Video = same_le _ _ (rest.other_faults Video (λ e. cc))
+text_keeps a c rest Audio = same_le _ _ (rest.other_faults Audio (λ e. cc))
+text_keeps a c rest Script = same_le _ _ (rest.other_faults Script (λ e. cc))
+text_keeps a c rest Text = rest.text
 
-pub keeps : (reading : Reading) (status : Status) (a b c : HostState) → Runs reading status a b → ChangesVideo a b → OnlyPort Text b c → b.faults Text ≤ c.faults Text → Keeps reading a c
-keeps reading status a b c runs changes rest tells = record {
-  files = rest.files ∙ changes.files;
-  loads = omega (arith, changes.loads, rest.load_faults);
-  faults = faults_keep a b c changes rest tells;
-  others = others_keep reading status a b c runs changes rest;
-}
+show_others : (show : Show) (a c : HostState) → ChangesVideoAndText a c → (port : Port) → port ≢ Text → written (meaning.Play show) port ≡ None → c.faults port ≡ a.faults port
+show_others show a c rest Video apart none = cc
+show_others show a c rest Audio apart none = rest.other_faults Audio (λ e. cc) apart
+show_others show a c rest Script apart none = rest.other_faults Script (λ e. cc) apart
+show_others show a c rest Text apart none = absurd (apart refl)
+
+pub keeps : (reading : Reading) (status : Status) (a c : HostState) → Ends reading status a c → Keeps reading a c
+keeps (meaning.Play show) status a c ends =
+    let rest = ends.rest in record { files = rest.files; loads = rest.loads; faults = both_keep a c rest; others = show_others show a c rest }
+keeps (meaning.Print job) status a c ends =
+    let rest = ends.rest in record { files = rest.files; loads = rest.loads; faults = text_keeps a c rest; others = λ port apart none. rest.other_faults port apart }
+keeps (meaning.Refused refusal) status a c ends =
+    let rest = ends.rest in record { files = rest.files; loads = rest.loads; faults = text_keeps a c rest; others = λ port apart none. rest.other_faults port apart }

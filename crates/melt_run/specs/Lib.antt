@@ -1,9 +1,12 @@
+pub mod Ends
+pub mod Made
 pub mod Outcome
 pub mod Pixels
 pub mod Play
 pub mod Prepared
-pub mod Runs
+pub mod Prints
+pub mod Service
 pub mod Show
 pub mod Sources
+pub mod State
 pub mod Status
-pub mod Words

@@ -6,7 +6,9 @@ use Rattle.mlt_tree.specs.Reading.{Reading, Files, reading_on, loads}
 use Rattle.mlt_host.specs.Host.{HostState}
 use Rattle.melt_run.specs.declared.show.Show.{Show}
 use Rattle.melt_run.specs.declared.prepared.Prepared.{Prepared}
-use Rattle.melt_run.specs.declared.prepared.Prepared.TheVariants.{Play, Refused, Memory}
+use Rattle.melt_run.specs.declared.prepared.Prepared.TheVariants.{Play, Text, Refused, Memory}
+use Rattle.melt_run.specs.declared.prepared.TextJob.{TextJob}
+use Rattle.melt_run.specs.declared.prepared.TextJob.TheVariants.{Version, Query}
 use Rattle.melt_run.specs.Show.{meant}
 
 -- what holds of the words' meaning, where the host tells the files that they name, if they name any
@@ -17,13 +19,20 @@ Meant words host P = IfSome (reading_on words host.files) P
 abbrev pub Fits : List Pixel → Type 0
 Fits table = 0 < length table
 
+-- a question as the definitions see it
+abbrev pub job_of : TextJob → meaning.TextJob
+job_of Version = meaning.Version
+job_of (Query asked) = meaning.Query asked
+
 abbrev pub Reads : Prepared → Reading → Type 0
 Reads (Play show table) reading = (reading ≡ meaning.Play (meant show table)) × Fits table
+Reads (Text job) reading = reading ≡ meaning.Print (job_of job)
 Reads (Refused refusal) reading = reading ≡ meaning.Refused refusal
 Reads Memory reading = Unit {0}
 
 abbrev pub IfPlay : Prepared → (Show → List Pixel → Type 0) → Type 0
 IfPlay (Play show table) P = P show table
+IfPlay (Text job) P = Unit {0}
 IfPlay (Refused refusal) P = Unit {0}
 IfPlay Memory P = Unit {0}
 
@@ -39,5 +48,6 @@ loads_on words (Some files) = map (λ load. load.1) (loads words files)
 -- all files that the words look up were asked for; some of the first of them where memory was wanting
 abbrev pub AsksForWords : Prepared → List (List ℕ) → HostState → HostState → Type 0
 AsksForWords (Play show table) words old new = Asks (loads_on words old.files) old new
+AsksForWords (Text job) words old new = Asks (loads_on words old.files) old new
 AsksForWords (Refused refusal) words old new = Asks (loads_on words old.files) old new
 AsksForWords Memory words old new = (count : ℕ) × Asks (take count (loads_on words old.files)) old new

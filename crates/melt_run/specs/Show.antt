@@ -5,7 +5,10 @@ use Rattle.mlt_base.specs.Colour.{Pixel}
 use Rattle.mlt_base.specs.declared.profile.Profile.{Profile}
 use Rattle.mlt_base.specs.declared.profile.Rate.{Rate}
 use Rattle.mlt_tree.specs.Show as meaning
-use Rattle.mlt_tree.specs.Reading.{one_clip, Frames}
+use Rattle.mlt_tree.specs.Reading.{clip_tree, Frames}
+use Rattle.melt_run.specs.declared.show.Output.{Output}
+use Rattle.melt_run.specs.declared.show.Pix.{Pix}
+use Rattle.melt_run.specs.declared.show.Pix.TheVariants.{Rgb, Rgba}
 use Rattle.melt_run.specs.declared.show.Show.{Show}
 
 -- the words as lists of bytes
@@ -21,16 +24,37 @@ frames_of profile = record {
   rate = fraction profile.rate;
 }
 
+abbrev pub pix_of : Pix → meaning.Pix
+pix_of Rgb = meaning.Rgb
+pix_of Rgba = meaning.Rgba
+
+abbrev pub settings_of : Output → meaning.Settings
+settings_of output = record {
+  video = output.video;
+  pix = pix_of output.pix;
+  first = output.first.0;
+  last = output.last.0;
+  workers = output.workers;
+  buffer = output.buffer;
+  slices = output.slices;
+  cache = output.cache;
+}
+
 -- a show with its sources
 abbrev pub meant : Show → List Pixel → meaning.Show
 meant show table = record {
   size = (frames_of show.profile).size;
   rate = (frames_of show.profile).rate;
   sources = map meaning.Plain table;
-  tree = one_clip show.last;
-  output = record { video = show.video; pix = meaning.Rgb; first = 0; last = show.last };
+  tree = clip_tree show.clip.length show.clip.first show.clip.last;
+  output = settings_of show.output;
 }
 
--- the bytes of a frame, three a pixel
+-- the bytes of a pixel as it is written
+abbrev pub pixel_size : Pix → ℕ
+pixel_size Rgb = 3
+pixel_size Rgba = 4
+
+-- the bytes of a frame
 abbrev pub piece_of : Show → ℕ
-piece_of show = 3 * (show.profile.width * show.profile.height)
+piece_of show = pixel_size show.output.pix * (show.profile.width * show.profile.height)

@@ -1,28 +1,38 @@
 //! The top call: from words to bytes on the ports of a host.
 //!
-//! [`melt`] reads the words, plays what they mean, and tells a person what went wrong. Its contract is
-//! the headline of the whole product. Start reading at [`run`], then [`prepared`] and [`play`]; the
-//! relations that their clauses cite stand in `specs/`. Only the program stands above.
+//! [`melt`] reads the words, plays or prints what they mean, and tells a person what went wrong. Its
+//! contract is the headline of the whole product. Start reading at [`run`], then [`prepared`], [`play`]
+//! and [`text`]; the relations that their clauses cite stand in `specs/`. Only the program stands above.
 #![tactic(auto)]
 
+mod built;
+mod clip;
+mod colours;
+mod composition;
 mod draw;
 pub mod gate;
 pub mod line;
 pub mod play;
 pub mod prepared;
+mod props;
 pub mod run;
+mod seal;
+mod service;
 pub mod show;
 pub mod sources;
+mod state;
 pub mod status;
-mod words;
+pub mod text;
 
 pub use gate::{Free, Gate};
+pub use mlt_tree::QueryKind;
 pub use play::play_serial;
-pub use prepared::{Prepared, prepare};
+pub use prepared::{Prepared, TextJob, prepare};
 pub use run::melt;
-pub use show::Show;
+pub use show::{Clip, Output, Pix, Show};
 pub use sources::{Colour, SourceTable};
 pub use status::{Status, Tally};
+pub use text::melt_text;
 
 #[cfg(test)]
 mod tests;

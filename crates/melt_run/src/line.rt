@@ -1,6 +1,8 @@
 //! The line that tells a person how a run ended, written into a fixed array.
 
 ghost use Rattle.std.specs.Prelude.{◌≡◌, ◌≤◌, ◌<◌, ◌+◌, ◌++◌, [], length, take, drop, codes, decimal};
+ghost use Rattle.std.specs.Fmt.{signed_decimal};
+ghost use Rattle.mlt_tree.specs.declared.refusal.Cause.TheVariants.{OutOfRange, BadRange, TooMany, TooLong, TooLarge};
 ghost use Rattle.mlt_tree.specs.Lines.{cause_text, inner_text, port_text, refusal_line, sink_line, memory_line};
 ghost use Rattle.melt_run.specs.Status.{line_of};
 
@@ -64,24 +66,112 @@ impl Line {
     }
 
     /// Adds the number in decimal digits.
-    fn number(&mut self, n: u32)
-        requires { length self.old + 40 ≤ 256 }
+    fn count(&mut self, n: u32)
+        requires { length self.old + 20 ≤ 256 }
         ensures text { self.new ≡ self.old ++ decimal n }
-        ensures short { length self.new ≤ length self.old + 40 }
+        ensures short { length self.new ≤ length self.old + 20 }
     {
         let mut buffer = Buffer::new();
         self.text(buffer.format(n).as_bytes());
     }
-}
 
-fn cause_name(cause: Cause) -> &'static str
-    ensures text { result.now ≡ cause_text cause }
-    ensures short { length result.now ≤ 40 }
-{
-    match cause {
-        Cause::Unsupported => "option not supported",
-        Cause::BadValue => "bad value",
-        Cause::NoProducer => "nothing to play",
+    /// Adds the number in decimal digits.
+    fn number(&mut self, n: u64)
+        requires { length self.old + 20 ≤ 256 }
+        ensures text { self.new ≡ self.old ++ decimal n }
+        ensures short { length self.new ≤ length self.old + 20 }
+    {
+        let mut buffer = Buffer::new();
+        self.text(buffer.format(n).as_bytes());
+    }
+
+    /// Adds the number in decimal digits, behind a `-` where it is below 0.
+    fn signed(&mut self, n: i64)
+        requires { length self.old + 20 ≤ 256 }
+        ensures text { self.new ≡ self.old ++ signed_decimal n }
+        ensures short { length self.new ≤ length self.old + 20 }
+    {
+        let mut buffer = Buffer::new();
+        self.text(buffer.format(n).as_bytes());
+    }
+
+    fn out_of_range(&mut self, value: i64, low: i64, high: i64)
+        requires { length self.old + 80 ≤ 256 }
+        ensures text { self.new ≡ self.old ++ cause_text (OutOfRange value low high) }
+        ensures short { length self.new ≤ length self.old + 80 }
+    {
+        self.signed(value);
+        self.text(b" is outside ");
+        self.signed(low);
+        self.text(b" to ");
+        self.signed(high);
+    }
+
+    fn bad_range(&mut self, first: u32, last: u32, frames: u32)
+        requires { length self.old + 80 ≤ 256 }
+        ensures text { self.new ≡ self.old ++ cause_text (BadRange first last frames) }
+        ensures short { length self.new ≤ length self.old + 80 }
+    {
+        self.text(b"bad range ");
+        self.count(first);
+        self.text(b" to ");
+        self.count(last);
+        self.text(b" of ");
+        self.count(frames);
+    }
+
+    fn too_many(&mut self, limit: u32)
+        requires { length self.old + 80 ≤ 256 }
+        ensures text { self.new ≡ self.old ++ cause_text (TooMany limit) }
+        ensures short { length self.new ≤ length self.old + 80 }
+    {
+        self.text(b"more than ");
+        self.count(limit);
+    }
+
+    fn too_long(&mut self, frames: u64)
+        requires { length self.old + 80 ≤ 256 }
+        ensures text { self.new ≡ self.old ++ cause_text (TooLong frames) }
+        ensures short { length self.new ≤ length self.old + 80 }
+    {
+        self.number(frames);
+        self.text(b" frames are too many");
+    }
+
+    fn too_large(&mut self, bytes: u64)
+        requires { length self.old + 80 ≤ 256 }
+        ensures text { self.new ≡ self.old ++ cause_text (TooLarge bytes) }
+        ensures short { length self.new ≤ length self.old + 80 }
+    {
+        self.number(bytes);
+        self.text(b" bytes are too many");
+    }
+
+    /// Adds the text of a cause.
+    fn cause(&mut self, cause: Cause)
+        requires { length self.old + 80 ≤ 256 }
+        ensures text { self.new ≡ self.old ++ cause_text cause }
+        ensures short { length self.new ≤ length self.old + 80 }
+    {
+        match cause {
+            Cause::UnknownOption => self.text(b"unknown option"),
+            Cause::Unsupported => self.text(b"option not supported"),
+            Cause::MissingArgument => self.text(b"argument missing"),
+            Cause::StrayProperty => self.text(b"property without an object"),
+            Cause::UnknownService => self.text(b"unknown service"),
+            Cause::BadValue => self.text(b"bad value"),
+            Cause::BadNumber(_) => self.text(b"bad number"),
+            Cause::OutOfRange { value, low, high } => self.out_of_range(value, low, high),
+            Cause::BadRange {
+                first,
+                last,
+                length,
+            } => self.bad_range(first, last, length),
+            Cause::NoProducer => self.text(b"nothing to play"),
+            Cause::TooMany { limit } => self.too_many(limit),
+            Cause::TooLong { frames } => self.too_long(frames),
+            Cause::TooLarge { bytes } => self.too_large(bytes),
+        }
     }
 }
 
@@ -106,7 +196,7 @@ impl Line {
     {
         if let Some(place) = place {
             self.text(b"in file word ");
-            self.number(place);
+            self.count(place);
             self.text(b": ");
         }
     }
@@ -117,10 +207,10 @@ fn refusal(refusal: &Refusal) -> Line
 {
     let mut line = Line::new();
     line.text(b"melt: word ");
-    line.number(refusal.word);
+    line.count(refusal.word);
     line.text(b": ");
     line.inner(refusal.inner);
-    line.text(cause_name(refusal.cause).as_bytes());
+    line.cause(refusal.cause);
     line.text(b"\n");
     line
 }

@@ -63,7 +63,7 @@ fn stopped(frames: u32) -> Tally
 /// Draws a position into the buffer.
 fn draw_into(show: &Show, table: &SourceTable, at: u32, lease: &mut Lease)
     requires fits { Fits table.now }
-    requires inside { at ≤ show.now.last }
+    requires inside { at ≤ show.now.output.last.0 }
     requires room { length lease.old ≡ piece_of show.now }
     ensures bytes { lease.new ≡ video_of (meant show.now table.now) at }
     ensures length { length lease.new ≡ length lease.old }
@@ -81,7 +81,7 @@ fn play_frame<H: Host>(
     pool: &mut Pool,
 ) -> Result<(), Failed>
     requires fits { Fits table.now }
-    requires inside { at ≤ show.now.last }
+    requires inside { at ≤ show.now.output.last.0 }
     requires home { 0 < home_of pool.old (class_of (piece_of show.now)) }
     ensures ok { OnOk result (Appends Video (H.state host.old) (H.state host.new) (video_of (meant show.now table.now) at)) }
     ensures failed { OnErr result (AppendsFront Video (H.state host.old) (H.state host.new) (video_of (meant show.now table.now) at)) }
@@ -110,12 +110,13 @@ fn play_frames<H: Host>(show: &Show, table: &SourceTable, host: &mut H, pool: &m
     ensures rest { OnlyPort Video (H.state host.old) (H.state host.new) }
     ensures lent { all_lent pool.new ≡ all_lent pool.old }
 {
-    let Ok(()) = host.create(Port::Video, show.video.as_str()) else {
+    let Ok(()) = host.create(Port::Video, show.output.video.as_str()) else {
         return Status::SinkFault(Port::Video, nothing());
     };
-    let frames = show.last + 1;
+    let first = show.output.first.0;
+    let frames = show.output.last.0 + 1 - first;
     for done in 0..frames {
-        let Ok(()) = play_frame(show, table, done, host, pool) else {
+        let Ok(()) = play_frame(show, table, first + done, host, pool) else {
             return Status::SinkFault(Port::Video, stopped(done));
         };
     }

@@ -1,27 +1,212 @@
-//! From words to what is played.
+//! From words to what is played or printed.
 
-ghost use Rattle.std.specs.Prelude.{◌≡◌};
+ghost use Rattle.std.specs.Prelude.{◌≡◌, IfOk, None, Option, length, find};
+ghost use Rattle.std.specs.Option.{option_map, option_copied};
+ghost use Rattle.std.specs.List.{list_any};
 ghost use Rattle.mlt_host.specs.Host.{OnlyLoads};
+ghost use Rattle.mlt_tree.specs.Reading as meaning;
+ghost use Rattle.mlt_tree.specs.Refusing.{over, refusal_at as refusal_of};
 ghost use Rattle.melt_run.specs.Show.{texts};
+ghost use Rattle.melt_run.specs.State.{Takes};
 ghost use Rattle.melt_run.specs.Prepared.{Meant, Reads, Fits, IfPlay, AsksForWords};
 
+use crate::composition::show;
+use crate::props::refusal_at;
 use crate::show::Show;
 use crate::sources::SourceTable;
-use crate::words::read;
+use melt_words::groups;
+use mlt_base::{Try, WordCause, WordFault};
 use mlt_host::Host;
-use mlt_tree::Refusal;
+use mlt_tree::{Cause, Group, GroupKind, QueryKind, Refusal};
 use std::alloc::Global;
+
+/// A question that is answered on the text.
+#[derive(Clone, Copy, Debug, PartialEq, Eq)]
+pub enum TextJob {
+    /// The name and the version of the program.
+    Version,
+    /// A list of names.
+    Query(QueryKind),
+}
 
 /// What the words ask for.
 #[derive(Drop)]
 pub enum Prepared {
     /// A show, and a table that has its sources.
     Play(Show, SourceTable),
+    Text(TextJob),
     Refused(Refusal),
     Memory,
 }
 
-/// Reads the words, and loads the files that they name.
+fn is_version(group: &Group) -> bool
+    ensures { result ≡ meaning.is_version group.now }
+{
+    match group.kind {
+        GroupKind::Version => true,
+        _ => false,
+    }
+}
+
+fn is_query(group: &Group) -> bool
+    ensures { result ≡ meaning.is_query group.now }
+{
+    match group.kind {
+        GroupKind::Query => true,
+        _ => false,
+    }
+}
+
+fn is_later_job(group: &Group) -> bool
+    ensures { result ≡ meaning.is_later_job group.now }
+{
+    match group.kind {
+        GroupKind::Serialise | GroupKind::Generate => true,
+        _ => false,
+    }
+}
+
+/// The list of names that the argument of `-query` asks for.
+fn query_named(text: &str) -> Option<QueryKind>
+    ensures { result ≡ meaning.query_named text.now }
+{
+    match text {
+        "producers" => Some(QueryKind::Producers),
+        "filters" => Some(QueryKind::Filters),
+        "transitions" => Some(QueryKind::Transitions),
+        "consumers" => Some(QueryKind::Consumers),
+        "profiles" => Some(QueryKind::Profiles),
+        _ => None,
+    }
+}
+
+/// The first `-query`; a second is refused.
+fn first_query(asked: Option<QueryKind>, group: &Group) -> Result<Option<QueryKind>, Refusal>
+    ensures { result ≡ meaning.query_again asked group.now }
+{
+    match asked {
+        Some(_) => Err(refusal_at(group.place, Cause::TooMany { limit: 1 })),
+        None => match query_named(group.arg.as_str()) {
+            None => Err(refusal_at(group.place, Cause::BadValue)),
+            Some(asked) => Ok(Some(asked)),
+        },
+    }
+}
+
+#[tactic(auto, unfolding(mlt_tree::specs::Reading::query_step))]
+fn query_step(asked: Option<QueryKind>, group: &Group) -> Result<Option<QueryKind>, Refusal>
+    ensures { result ≡ meaning.query_step asked group.now }
+{
+    if is_query(group) {
+        first_query(asked, group)
+    } else {
+        Ok(asked)
+    }
+}
+
+/// What `-query` asks for.
+fn asked(groups: &[Group]) -> Result<Option<QueryKind>, Refusal>
+    ensures { result ≡ over meaning.query_step None groups.now }
+{
+    let mut asked = None;
+    for group in groups {
+        asked = query_step(asked, group)?;
+    }
+    Ok(asked)
+}
+
+fn query(groups: &[Group]) -> Prepared
+    ensures { Reads result (meaning.query_read (over meaning.query_step None groups.now)) }
+{
+    match asked(groups) {
+        Ok(None) => Prepared::Text(TextJob::Version),
+        Ok(Some(asked)) => Prepared::Text(TextJob::Query(asked)),
+        Err(refusal) => Prepared::Refused(refusal),
+    }
+}
+
+fn later_job(groups: &[Group]) -> Option<&Group>
+    ensures { option_copied result ≡ find meaning.is_later_job groups.now }
+{
+    for group in groups {
+        if is_later_job(group) {
+            return Some(group);
+        }
+    }
+    None
+}
+
+fn play(alloc: Global, count: u32, groups: &[Group]) -> Prepared
+    ensures { Reads result (meaning.show_read (meaning.show_of count groups.now)) }
+{
+    match show(alloc, count, groups) {
+        Ok((show, table)) => Prepared::Play(show, table),
+        Err(Try::Fault(refusal)) => Prepared::Refused(refusal),
+        Err(Try::Memory) => Prepared::Memory,
+    }
+}
+
+fn has_version(groups: &[Group]) -> bool
+    ensures { result ≡ list_any meaning.is_version groups.now }
+{
+    groups.iter().any(|group| is_version(group))
+}
+
+fn has_query(groups: &[Group]) -> bool
+    ensures { result ≡ list_any meaning.is_query groups.now }
+{
+    groups.iter().any(|group| is_query(group))
+}
+
+/// The first of the jobs that the groups have, else to play.
+fn job(alloc: Global, count: u32, groups: &[Group]) -> Prepared
+    ensures { Reads result (meaning.job_of count groups.now) }
+{
+    if has_version(groups) {
+        return Prepared::Text(TextJob::Version);
+    }
+    if has_query(groups) {
+        return query(groups);
+    }
+    match later_job(groups) {
+        Some(group) => Prepared::Refused(refusal_at(group.place, Cause::Unsupported)),
+        None => play(alloc, count, groups),
+    }
+}
+
+/// The cause of a fault of the words themselves.
+fn cause_of(cause: WordCause) -> Cause
+    ensures { result ≡ meaning.cause_of cause }
+{
+    match cause {
+        WordCause::UnknownOption => Cause::UnknownOption,
+        WordCause::Unsupported => Cause::Unsupported,
+        WordCause::MissingArgument => Cause::MissingArgument,
+        WordCause::StrayProperty => Cause::StrayProperty,
+        WordCause::TooMany(limit) => Cause::TooMany { limit },
+    }
+}
+
+fn word_refusal(fault: WordFault) -> Refusal
+    ensures { result ≡ refusal_of fault.place (meaning.cause_of fault.cause) }
+{
+    refusal_at(fault.place, cause_of(fault.cause))
+}
+
+/// What the words mean.
+fn read(alloc: Global, words: &[String]) -> Prepared
+    ensures { Reads result (meaning.reading (texts words.now) meaning.no_files) }
+{
+    match groups(alloc, words) {
+        Ok(list) => job(alloc, words.len() as u32, list.as_slice()),
+        Err(Try::Fault(fault)) => Prepared::Refused(word_refusal(fault)),
+        Err(Try::Memory) => Prepared::Memory,
+    }
+}
+
+/// Reads the words, and loads the files that they name; no word that is built names one.
+///
+/// It creates and appends nothing. `Refused` is the words' refusal, and `Memory` is want of memory.
 pub fn prepare<H: Host>(alloc: Global, words: &[String], host: &mut H) -> Prepared
     ensures reads { Meant (texts words.now) (H.state host.old) (Reads result) }
     ensures fits { IfPlay result (λ _ table. Fits table) }

@@ -7,35 +7,23 @@ ghost use Rattle.mlt_host.specs.Host.{OnlyPort};
 ghost use Rattle.mlt_tree.specs.declared.refusal.Refusal.{Refusal};
 ghost use Rattle.mlt_tree.specs.Reading as meaning;
 ghost use Rattle.mlt_tree.specs.Reading.{written};
-ghost use Rattle.melt_run.specs.Show.{texts};
+ghost use Rattle.melt_run.specs.Show.{texts, meant};
 ghost use Rattle.melt_run.specs.Status.{line_of, IfDone, IfRefused, IfSinkFault, IfMemory};
-ghost use Rattle.melt_run.specs.Prepared.{Meant, loads_on};
-ghost use Rattle.melt_run.specs.Outcome.{IsWritten, IsWholeTally, FailsAt, Leaves, Tells, AsksFor, Keeps, MeetsNoFault, IsDoneOrMemory, IsAccepted, CreatesNothing};
-ghost use Rattle.melt_run.specs.Runs.{Runs, ChangesVideo};
+ghost use Rattle.melt_run.specs.Prepared.{Meant, Fits, loads_on};
+ghost use Rattle.melt_run.specs.Outcome.{IsWritten, IsWholeTally, FailsAt, Leaves, Tells, AsksFor, Keeps, MeetsNoFault, IsDoneOrMemory, IsAccepted, CreatesNothing, Says};
+ghost use Rattle.melt_run.specs.Ends.{Ends, EndsShow};
 
 use crate::gate::Gate;
 use crate::line::fault_line;
 use crate::play::play_serial;
 use crate::prepared::{Prepared, prepare};
+use crate::show::Show;
+use crate::sources::SourceTable;
 use crate::status::Status;
+use crate::text::melt_text;
 use mlt_base::Port;
 use mlt_host::Host;
 use std::alloc::Global;
-
-/// Plays what the words mean, and tells nobody.
-fn run<H: Host>(alloc: Global, words: &[String], host: &mut H) -> Status
-    ensures runs { Meant (texts words.now) (H.state host.old) (λ reading. Runs reading result (H.state host.old) (H.state host.new)) }
-    ensures untouched { IfRefused result (λ _. (H.state host.new).port Video ≡ (H.state host.old).port Video) }
-    ensures nothing { IfMemory result ((H.state host.new).port Video ≡ (H.state host.old).port Video) }
-    ensures asked { AsksFor result (loads_on (texts words.now) (H.state host.old).files) (H.state host.old) (H.state host.new) }
-    ensures rest { ChangesVideo (H.state host.old) (H.state host.new) }
-{
-    match prepare(alloc, words, host) {
-        Prepared::Play(show, table) => play_serial(alloc, show, table, host),
-        Prepared::Refused(refusal) => Status::Refused(refusal),
-        Prepared::Memory => Status::Memory,
-    }
-}
 
 /// Appends the run's line to the text that a person reads.
 fn tell<H: Host>(host: &mut H, status: &Status)
@@ -49,8 +37,48 @@ fn tell<H: Host>(host: &mut H, status: &Status)
     }
 }
 
-/// Plays what the words mean on the host: appends to each output the bytes of the composition at the
-/// positions from its first to its last, in order, and tells a person in one line where it could not.
+/// Tells how a run ended that has created nothing.
+fn told<H: Host>(host: &mut H, status: Status) -> Status
+    ensures same { result ≡ status }
+    ensures line { Tells (line_of status) (H.state host.old) (H.state host.new) }
+    ensures never_falls { (H.state host.old).faults Text ≤ (H.state host.new).faults Text }
+    ensures rest { OnlyPort Text (H.state host.old) (H.state host.new) }
+{
+    tell(host, &status);
+    status
+}
+
+/// Plays the show, and tells where it was not played whole.
+fn played<H: Host>(alloc: Global, show: Show, table: SourceTable, host: &mut H) -> Status
+    requires { Fits table }
+    ensures ends { EndsShow (meant show table) result (H.state host.old) (H.state host.new) }
+    ensures nothing { IfMemory result (CreatesNothing (H.state host.old) (H.state host.new)) }
+    ensures asked { (H.state host.new).asked ≡ (H.state host.old).asked }
+    ensures never_refused { IfRefused result (λ _. ⊥) }
+{
+    let status = play_serial(alloc, show, table, host);
+    tell(host, &status);
+    status
+}
+
+/// Does what the words mean.
+fn run<H: Host>(alloc: Global, words: &[String], host: &mut H) -> Status
+    ensures ends { Meant (texts words.now) (H.state host.old) (λ reading. Ends reading result (H.state host.old) (H.state host.new)) }
+    ensures untouched { IfRefused result (λ _. CreatesNothing (H.state host.old) (H.state host.new)) }
+    ensures nothing { IfMemory result (CreatesNothing (H.state host.old) (H.state host.new)) }
+    ensures asked { AsksFor result (loads_on (texts words.now) (H.state host.old).files) (H.state host.old) (H.state host.new) }
+{
+    match prepare(alloc, words, host) {
+        Prepared::Play(show, table) => played(alloc, show, table, host),
+        Prepared::Text(job) => melt_text(job, host),
+        Prepared::Refused(refusal) => told(host, Status::Refused(refusal)),
+        Prepared::Memory => told(host, Status::Memory),
+    }
+}
+
+/// Does what the words mean on the host: appends to each output the bytes of the composition at the
+/// positions from its first to its last, in order, or prints what is asked; and tells a person in one
+/// line where it could not.
 ///
 /// `rt` is the runtime, which calls that wait take; nothing here waits, and the call returns.
 /// `Refused` is the refusal of the words, and `Memory` want of memory; no output is then created.
@@ -84,11 +112,10 @@ pub fn melt<R, H: Host, G: Gate>(
     ensures front { Meant (texts words.now) (H.state host.old) (λ reading. (port : Port) → port ≢ Text →
         Leaves (written reading port) ((H.state host.old).port port) ((H.state host.new).port port)) }
 
-    ensures line { Tells (line_of result) (H.state host.old) (H.state host.new) }
+    // The text has got the answer that was asked for, or the line of the run's end.
+    ensures says { Meant (texts words.now) (H.state host.old) (λ reading. Says reading result (H.state host.old) (H.state host.new)) }
     ensures asked { AsksFor result (loads_on (texts words.now) (H.state host.old).files) (H.state host.old) (H.state host.new) }
     ensures rest { Meant (texts words.now) (H.state host.old) (λ reading. Keeps reading (H.state host.old) (H.state host.new)) }
 {
-    let status = run(alloc, words, host);
-    tell(host, &status);
-    status
+    run(alloc, words, host)
 }

@@ -1,7 +1,7 @@
 //! Worked compositions, and every call of a host failing in turn.
 
 use super::*;
-use mlt_base::Port;
+use mlt_base::{NumFault, Port};
 use mlt_host::MemHost;
 use mlt_tree::{Cause, Refusal};
 use std::alloc::{AllocError, Global};
@@ -16,13 +16,31 @@ const RED_TWICE: [&str; 6] = [
     "out=1",
 ];
 
-const DONE: Tally = Tally {
-    frames: 2,
-    loads: 2,
-    handed: 2,
-    taken: 2,
-    destroyed: 0,
-};
+const fn tally(frames: u64) -> Tally {
+    Tally {
+        frames,
+        loads: frames,
+        handed: frames,
+        taken: frames,
+        destroyed: 0,
+    }
+}
+
+const fn refusal(word: u32, cause: Cause) -> Status {
+    Status::Refused(Refusal {
+        word,
+        inner: None,
+        cause,
+    })
+}
+
+fn split(alloc: Global, line: &str) -> Result<Vec<String>, AllocError> {
+    let mut words = Vec::new(alloc);
+    for text in line.split(' ') {
+        words.push(String::from_str(alloc, text)?)?;
+    }
+    Ok(words)
+}
 
 fn owned(alloc: Global, texts: &[&str]) -> Result<Vec<String>, AllocError> {
     let mut words = Vec::new(alloc);
@@ -32,90 +50,139 @@ fn owned(alloc: Global, texts: &[&str]) -> Result<Vec<String>, AllocError> {
     Ok(words)
 }
 
-fn refusal(word: u32, cause: Cause) -> Status {
-    Status::Refused(Refusal {
-        word,
-        inner: None,
-        cause,
-    })
-}
-
 #[test]
-fn plays_and_refuses(rt: HostRuntime) -> Result<(), Fail> {
+fn plays_prints_and_refuses(rt: HostRuntime) -> Result<(), Fail> {
     let alloc = rt.alloc();
-    let one = Tally {
-        frames: 1,
-        loads: 1,
-        handed: 1,
-        taken: 1,
-        destroyed: 0,
-    };
-    let no_words: [&str; 0] = [];
-    let rows: [(&[&str], Status, &str, &[u8], &str); 6] = [
+    // The words, how they end, what Video has, and what a person reads.
+    let rows: [(&str, Status, &[u8], &str); 18] = [
         (
-            &RED_TWICE,
-            Status::Done(DONE),
-            "v",
+            "-profile 1x1@25/1 -consumer raw:v colour:red out=1",
+            Status::Done(tally(2)),
             &[255, 0, 0, 255, 0, 0],
             "",
         ),
         (
-            &RED_TWICE[..4],
+            "-profile 1x1@25/1 -consumer raw:v",
             refusal(4, Cause::NoProducer),
-            "",
             &[],
             "melt: word 4: nothing to play\n",
         ),
         (
-            &[
-                "-profile",
-                "1x1@25/1",
-                "-consumer",
-                "raw:",
-                "colour:0x00ff0080",
-                "out=0",
-            ],
-            Status::Done(one),
-            "-",
+            "-profile 1x1@25/1 -consumer raw:v colour:0x00ff0080 out=0",
+            Status::Done(tally(1)),
             &[0, 128, 0],
             "",
         ),
         (
-            &["-profile", "1x1@25/1", "-consumer", "raw:v", "colour:pink"],
-            refusal(4, Cause::BadValue),
+            "-profile 1x1@25/1 -consumer raw:v pix=rgba colour:0x00ff0080 out=0",
+            Status::Done(tally(1)),
+            &[0, 255, 0, 128],
             "",
+        ),
+        (
+            "-profile 1x1@25/1 -consumer raw:v colour:red out=4 -split 0 out=3",
+            refusal(8, Cause::StrayProperty),
+            &[],
+            "melt: word 8: property without an object\n",
+        ),
+        (
+            "-profile 1x1@25/1 -consumer raw:v -foo",
+            refusal(4, Cause::UnknownOption),
+            &[],
+            "melt: word 4: unknown option\n",
+        ),
+        (
+            "-profile 1x1@25/1 -consumer raw:v -jack",
+            refusal(4, Cause::Unsupported),
+            &[],
+            "melt: word 4: option not supported\n",
+        ),
+        (
+            "-profile 1x1@25/1 -consumer raw:v colour:pink",
+            refusal(4, Cause::BadValue),
             &[],
             "melt: word 4: bad value\n",
         ),
         (
-            &[
-                "-profile",
-                "1x1@25/1",
-                "-consumer",
-                "raw:v",
-                "colour",
-                "out=0",
-                "out=0",
-            ],
-            refusal(6, Cause::Unsupported),
-            "",
+            "-profile 1x1@25/1 -consumer raw:v mpeg:x",
+            refusal(4, Cause::UnknownService),
             &[],
-            "melt: word 6: option not supported\n",
+            "melt: word 4: unknown service\n",
         ),
         (
-            &no_words,
-            refusal(0, Cause::Unsupported),
-            "",
+            "-profile 1x1@25/1 -consumer raw:v -split",
+            refusal(4, Cause::MissingArgument),
             &[],
-            "melt: word 0: option not supported\n",
+            "melt: word 4: argument missing\n",
+        ),
+        (
+            "-profile 1x1@25/1 -consumer raw:v colour:red in=3 out=2",
+            refusal(
+                4,
+                Cause::BadRange {
+                    first: 3,
+                    last: 2,
+                    length: 15000,
+                },
+            ),
+            &[],
+            "melt: word 4: bad range 3 to 2 of 15000\n",
+        ),
+        (
+            "-profile 4096x4096@25/1 -consumer raw:v buffer=64 colour:red out=0",
+            refusal(7, Cause::TooLarge { bytes: 4697620480 }),
+            &[],
+            "melt: word 7: 4697620480 bytes are too many\n",
+        ),
+        (
+            "-profile 1x1@25/1 -consumer raw:v colour:red in=1000001 out=2000001",
+            refusal(7, Cause::TooLong { frames: 1000001 }),
+            &[],
+            "melt: word 7: 1000001 frames are too many\n",
+        ),
+        (
+            "-profile 1x1@25/1 -consumer raw:v real_time=-17 colour:red",
+            refusal(
+                4,
+                Cause::OutOfRange {
+                    value: -17,
+                    low: -16,
+                    high: 16,
+                },
+            ),
+            &[],
+            "melt: word 4: -17 is outside -16 to 16\n",
+        ),
+        (
+            "-profile 1x1@25/1 -consumer raw:v -group out=0 in=x colour:red in=0x",
+            refusal(8, Cause::BadNumber(NumFault::BadDigit(1))),
+            &[],
+            "melt: word 8: bad number\n",
+        ),
+        (
+            "-query profiles -query filters",
+            refusal(2, Cause::TooMany { limit: 1 }),
+            &[],
+            "melt: word 2: more than 1\n",
+        ),
+        (
+            "-attach x -version",
+            Status::Done(tally(0)),
+            &[],
+            "melt 1.0.0\n",
+        ),
+        (
+            "-query transitions",
+            Status::Done(tally(0)),
+            &[],
+            "luma\ncomposite\nmatte\nmix\nsum\n",
         ),
     ];
-    for (texts, status, name, video, text) in rows {
-        let words = owned(alloc, texts)?;
+    for (line, status, video, text) in rows {
+        let words = split(alloc, line)?;
         let mut host = MemHost::new(alloc);
         let answer = melt(&(), alloc, words.as_slice(), &mut host, &Free);
-        assert_eq!(rt; answer, status);
-        assert_eq!(rt; host.name_of(Port::Video), name);
+        assert_eq!(rt; answer, status, "{line}");
         assert_eq!(rt; host.bytes_of(Port::Video), video);
         assert_eq!(rt; host.bytes_of(Port::Text), text.as_bytes());
     }
@@ -156,12 +223,17 @@ fn answers_each_failing_call(rt: HostRuntime) -> Result<(), Fail> {
         assert_eq!(rt; host.bytes_of(Port::Video), video);
         assert_eq!(rt; host.bytes_of(Port::Text), line.as_bytes());
     }
-    // The line itself cannot be written.
+    // The line itself, and an answer, cannot be written.
     let mut host = MemHost::new(alloc);
     host.fail_at(0, 4)?;
     let nothing = owned(alloc, &RED_TWICE[..4])?;
     let answer = melt(&(), alloc, nothing.as_slice(), &mut host, &Free);
     assert_eq!(rt; answer.code(), 1);
+    assert_eq!(rt; host.bytes_of(Port::Text), b"melt".as_slice());
+    let mut host = MemHost::new(alloc);
+    host.fail_at(0, 4)?;
+    let answer = melt_text(TextJob::Version, &mut host);
+    assert_eq!(rt; answer, Status::SinkFault(Port::Text, tally(0)));
     assert_eq!(rt; host.bytes_of(Port::Text), b"melt".as_slice());
     Ok(())
 }

@@ -1,5 +1,11 @@
+pub mod GroupWords
 pub mod Lines
 pub mod Picture
+pub mod Props
 pub mod Reading
+pub mod Refusing
+pub mod Services
 pub mod Show
+pub mod Table
 pub mod Tree
+pub mod Words

@@ -1,15 +1,28 @@
 -- The lines that a person is told, each whole and with its end.
 use Rattle.std.specs.Prelude.{ℕ, List, [], ◌∷◌, ◌++◌, Option, None, Some, codes, decimal}
+use Rattle.std.specs.Fmt.{signed_decimal}
 use Rattle.mlt_base.specs.declared.port.Port.{Port}
 use Rattle.mlt_base.specs.declared.port.Port.TheVariants.{Video, Audio, Script, Text}
 use Rattle.mlt_tree.specs.declared.refusal.Cause.{Cause}
-use Rattle.mlt_tree.specs.declared.refusal.Cause.TheVariants.{Unsupported, BadValue, NoProducer}
+use Rattle.mlt_tree.specs.declared.refusal.Cause.TheVariants.{UnknownOption, Unsupported, MissingArgument, StrayProperty, UnknownService, BadValue, BadNumber, OutOfRange, BadRange, NoProducer, TooMany, TooLong, TooLarge}
 use Rattle.mlt_tree.specs.declared.refusal.Refusal.{Refusal}
 
 abbrev pub cause_text : Cause → List ℕ
+cause_text UnknownOption = codes "unknown option"
 cause_text Unsupported = codes "option not supported"
+cause_text MissingArgument = codes "argument missing"
+cause_text StrayProperty = codes "property without an object"
+cause_text UnknownService = codes "unknown service"
 cause_text BadValue = codes "bad value"
+cause_text (BadNumber fault) = codes "bad number"
+cause_text (OutOfRange value low high) =
+    signed_decimal value ++ (codes " is outside " ++ (signed_decimal low ++ (codes " to " ++ signed_decimal high)))
+cause_text (BadRange first last length) =
+    codes "bad range " ++ (decimal first ++ (codes " to " ++ (decimal last ++ (codes " of " ++ decimal length))))
 cause_text NoProducer = codes "nothing to play"
+cause_text (TooMany limit) = codes "more than " ++ decimal limit
+cause_text (TooLong frames) = decimal frames ++ codes " frames are too many"
+cause_text (TooLarge bytes) = decimal bytes ++ codes " bytes are too many"
 
 -- the place within the file that a word names, where there is one
 abbrev pub inner_text : Option ℕ → List ℕ

@@ -25,12 +25,20 @@ pub data Pix : Type 0 where
   -- as they are, four bytes a pixel
   Rgba : Pix
 
--- where the frames go, and which
+-- where the frames go, which, and by how many hands
 pub record Settings : Type 0 where
   pub video : List ℕ
   pub pix : Pix
   pub first : ℕ
   pub last : ℕ
+  -- hands that render besides the one that writes
+  pub workers : ℕ
+  -- frames that may be in work or waiting to be written
+  pub buffer : ℕ
+  -- bands that a frame is worked out in
+  pub slices : ℕ
+  -- fitted pictures that are kept
+  pub cache : ℕ
 
 -- a composition with its sources, the frames' size and rate, and the output settings
 pub record Show : Type 0 where

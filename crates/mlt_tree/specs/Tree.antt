@@ -136,6 +136,28 @@ abbrev mutual
   needs_of_rows set row (Track t hide tracks) n =
       (if list_any (nat_eq row) set then needs t n else []) ++ needs_of_rows set (row + 1) tracks n
 
+abbrev mutual
+  -- how many picture buffers it takes to work a position out
+  pub need : Tree → ℕ
+  need (Src source kind frames) = 1
+  need (Blank frames) = 1
+  need (Part t first last) = need t
+  need (Seq parts) = need_in parts
+  need (Rows tracks) = tracks_in tracks + need_of_rows tracks
+
+  -- the greatest of the parts, at least 1
+  pub need_in : Parts → ℕ
+  need_in End = 1
+  need_in (Then t parts) = max (need t) (need_in parts)
+
+  pub need_of_rows : Tracks → ℕ
+  need_of_rows NoTrack = 0
+  need_of_rows (Track t hide tracks) = max (need t) (need_of_rows tracks)
+
+  pub tracks_in : Tracks → ℕ
+  tracks_in NoTrack = 0
+  tracks_in (Track t hide tracks) = tracks_in tracks + 1
+
 -- past its length a tree has no picture and no sound, and needs no source
 pub record IsSilentPast (t : Tree) (n : ℕ) : Type 0 where
   pub picture : (m : Matter (List ℕ)) → mean Pictures m t n ≡ None

@@ -1,8 +1,21 @@
 //! Laws of the definitions: each is the contract of a function that does nothing.
 
+ghost use Rattle.mlt_tree.specs.GroupWords.{GivesAllowed, KeepsWords};
 ghost use Rattle.mlt_tree.specs.Tree.{EndsAtItsLength};
 
 /// Past its length a tree has no picture and no sound, and needs no source.
 pub fn ends_at_its_length()
     ensures { EndsAtItsLength }
+{}
+
+/// No word is lost, made or moved where words are read into groups: the words of the groups, in order
+/// and each with its place, are the words that were read.
+pub fn words_are_kept()
+    ensures { KeepsWords }
+{}
+
+/// Groups that were read have places below 10,000, and an argument or properties only where their
+/// option takes them.
+pub fn groups_are_allowed()
+    ensures { GivesAllowed }
 {}

@@ -6,9 +6,17 @@
 //! hosts. Below stands `mlt_base`; all crates that build, start or render a composition stand above.
 #![tactic(auto)]
 
+pub mod group;
 pub mod laws;
+pub mod lists;
+pub mod query;
 pub mod refusal;
+pub mod table;
 pub mod tree;
 
+pub use group::{Group, GroupKind, MOST_WORDS, Prop};
+pub use lists::{GroupList, PropList, WordList};
+pub use query::QueryKind;
 pub use refusal::{Cause, Refusal};
+pub use table::{OPTIONS, Row};
 pub use tree::{Hide, SourceKind};

@@ -1,14 +1,36 @@
 //! Why words are refused, and where.
 
+use mlt_base::NumFault;
+
 /// The cause of a refusal, with its numbers. `specs/Lines.antt` has the text of each.
 #[derive(Clone, Copy, Debug, PartialEq, Eq)]
 pub enum Cause {
-    /// A word that is not built, or stands where it cannot.
+    /// A word that begins with `-` and is no option.
+    UnknownOption,
+    /// An option, a service or a property that is not done.
     Unsupported,
+    /// An option at the end that wants an argument.
+    MissingArgument,
+    /// A property that stands behind nothing that takes one, or has no name.
+    StrayProperty,
+    /// A producer, consumer, filter or transition that is none.
+    UnknownService,
     /// A value that is none of its kind.
     BadValue,
+    /// A number or time that cannot be read.
+    BadNumber(NumFault),
+    /// A whole number outside its range.
+    OutOfRange { value: i64, low: i64, high: i64 },
+    /// A range whose first is behind its last, or whose last is not below the length.
+    BadRange { first: u32, last: u32, length: u32 },
     /// Nothing would be played.
     NoProducer,
+    /// More than a limit allows.
+    TooMany { limit: u32 },
+    /// More frames than a run writes.
+    TooLong { frames: u64 },
+    /// More bytes than a run holds.
+    TooLarge { bytes: u64 },
 }
 
 /// A refusal of a list of words, with nothing created.

@@ -1,11 +1,11 @@
-use Rattle.std.proofs.Common.{refl, sym}
+use Rattle.std.proofs.Common.{refl, sym, ◌∙◌, arith}
 use Rattle.melt_run.specs.Show.{meant}
 use Rattle.melt_run.specs.Sources.{pixel}
-use Rattle.melt_run.proofs.Clip.{drawn, first_source}
+use Rattle.melt_run.proofs.OneClip.{drawn, first_source}
 use Rattle.melt_run.proofs.draw.draw.Goals as goal
 
 pub returns : goal.returns
 returns c =
-    let p = pixel c.colour-colour.result in
-    let whole = drawn (meant c.args.show.now c.args.table.now) c.args.show.now.last c.args.at p refl refl (first_source c.args.table.now p c.colour-colour.ensures) c.requires.inside in
-    rw (c.paint.ensures, c.pixels.ensures.value, c.over_black-r.ensures, c.over_black-g.ensures, c.over_black-b.ensures) (sym whole)
+    let show = c.args.show.now in let p = pixel c.colour.result in
+    let whole = drawn (meant show c.args.table.now) show.clip.length show.clip.first show.clip.last c.args.at p refl (first_source c.args.table.now p c.colour.ensures) (omega arith) (omega arith) in
+    rw (c.paint_as.ensures, c.pixels-count.ensures.value) (sym whole)

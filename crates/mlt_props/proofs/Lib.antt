@@ -1,0 +1,4 @@
+pub mod EntryLemmas
+pub mod OwnedLemmas
+pub mod PassLemmas
+pub mod SettingLemmas

@@ -1,0 +1,3 @@
+pub mod BadName
+pub mod Contents
+pub mod Entries

@@ -1,0 +1,75 @@
+-- The table of options: the option of a word is also that of its kind, and has that word.
+use Rattle.std.proofs.Common.{◌≡◌, ℕ, Bool, true, false, cond, not, ◌&&◌, List, [], ◌∷◌, Option, None, Some, unwrap_or, find, refl, sym, ap, ◌∙◌, arith}
+use Rattle.std.specs.List.{list_all}
+use Rattle.std.proofs.lemmas.Slice.Eq.{bytes_eq-Decides}
+use denote.Enum.Bare.{true_same}
+use Rattle.mlt_tree.specs.contracts.group.GroupKind.{the_type}
+use Rattle.mlt_tree.specs.declared.group.GroupKind.{GroupKind}
+use Rattle.mlt_tree.specs.declared.table.Row.{Row}
+use Rattle.mlt_tree.specs.declared.table.TheConstants.{OPTIONS}
+use Rattle.mlt_tree.specs.Table.{is_kind, is_named, name_of, option_of, row_of}
+
+-- the kind of a row, where it has one, is another than that of the row before it
+abbrev is_apart : Row → Option GroupKind → Bool
+is_apart row None = true
+is_apart row (Some kind) = not (is_kind kind row.kind)
+
+abbrev are_apart : List Row → Bool
+are_apart [] = true
+are_apart (row ∷ rows) = list_all (λ other. is_apart row other.kind) rows && are_apart rows
+
+options-apart : are_apart OPTIONS ≡ true
+options-apart = refl
+
+both : (x y : Bool) → (x && y) ≡ true → (x ≡ true) × (y ≡ true)
+both true y h = (refl, h)
+both false y h = absurd (grind arith)
+
+pub nothing_found : {X : Type 0} → (x : X) → None ≡ Some x → ⊥
+nothing_found x h = grind arith
+
+same_found : {X : Type 0} → (y x : X) → Some y ≡ Some x → y ≡ x
+same_found y x h = ap (λ o. unwrap_or o y) h
+
+chosen : {B : Type 0} → (b : Bool) (x y : B) → b ≡ true → cond b x y ≡ x
+chosen b x y h = rw h refl
+
+not_chosen : {B : Type 0} → (b : Bool) (x y : B) → not b ≡ true → cond b x y ≡ y
+not_chosen true x y h = absurd (grind arith)
+not_chosen false x y h = refl
+
+-- what is found passes, and so does all that every element passes
+found : {X : Type 0} → (p : X → Bool) (xs : List X) (x : X) → find p xs ≡ Some x → p x ≡ true
+found p [] x e = absurd (nothing_found x e)
+found p (y ∷ ys) x e = go (p y) refl e (found p ys x) where
+  go : (b : Bool) → p y ≡ b → cond b (Some y) (find p ys) ≡ Some x → (find p ys ≡ Some x → p x ≡ true) → p x ≡ true
+  go true h e later = sym (ap p (same_found y x e)) ∙ h
+  go false h e later = later e
+
+all_found : {X : Type 0} → (p test : X → Bool) (xs : List X) (x : X) → find p xs ≡ Some x → list_all test xs ≡ true → test x ≡ true
+all_found p test [] x e all = absurd (nothing_found x e)
+all_found p test (y ∷ ys) x e all = go (p y) e (all_found p test ys x) (both (test y) (list_all test ys) all) where
+  go : (b : Bool) → cond b (Some y) (find p ys) ≡ Some x → (find p ys ≡ Some x → list_all test ys ≡ true → test x ≡ true) → (test y ≡ true) × (list_all test ys ≡ true) → test x ≡ true
+  go true e later h = sym (ap test (same_found y x e)) ∙ h.0
+  go false e later h = later e h.1
+
+-- of rows whose kinds are apart, one that is found is the one of its kind
+of_kind : (p : Row → Bool) (kind : GroupKind) (rows : List Row) (row : Row) → row.kind ≡ Some kind → find p rows ≡ Some row → are_apart rows ≡ true → find (λ r. is_kind kind r.kind) rows ≡ Some row
+of_kind p kind [] row k e apart = absurd (nothing_found row e)
+of_kind p kind (r ∷ rows) row k e apart =
+    go (p r) e (of_kind p kind rows row k) (both (list_all (λ other. is_apart r other.kind) rows) (are_apart rows) apart) where
+      go : (b : Bool) → cond b (Some r) (find p rows) ≡ Some row → (find p rows ≡ Some row → are_apart rows ≡ true → find (λ q. is_kind kind q.kind) rows ≡ Some row) → (list_all (λ other. is_apart r other.kind) rows ≡ true) × (are_apart rows ≡ true) → cond (is_kind kind r.kind) (Some r) (find (λ q. is_kind kind q.kind) rows) ≡ Some row
+      go true e later h =
+          let here : r.kind ≡ Some kind = ap (λ q. q.kind) (same_found r row e) ∙ k in
+          chosen (is_kind kind r.kind) (Some r) _ (ap (is_kind kind) here ∙ true_same the_type kind kind refl) ∙ e
+      go false e later h =
+          let other : not (is_kind kind r.kind) ≡ true = sym (ap (is_apart r) k) ∙ all_found p (λ q. is_apart r q.kind) rows row e h.0 in
+          not_chosen (is_kind kind r.kind) (Some r) _ other ∙ later e h.1
+
+pub row_of-option : (word : List ℕ) (row : Row) (kind : GroupKind) → option_of word ≡ Some row → row.kind ≡ Some kind → row_of kind ≡ Some row
+unfolding option_of row_of
+row_of-option word row kind e k = of_kind (is_named word) kind OPTIONS row k e options-apart
+
+pub name_of-option : (word : List ℕ) (row : Row) → option_of word ≡ Some row → name_of row ≡ word
+unfolding option_of
+name_of-option word row e = (bytes_eq-Decides (name_of row) word).0 (found (is_named word) OPTIONS row e)

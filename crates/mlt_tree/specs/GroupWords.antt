@@ -1,0 +1,54 @@
+-- The words of groups, and what is true of groups that were read from words.
+use Rattle.std.specs.Prelude.{ℕ, ◌+◌, ◌<◌, ◌≡◌, Bool, true, false, if◌then◌else◌, List, [], ◌∷◌, ◌++◌, length, map, All, Option, None, Some, Ok}
+use Rattle.std.specs.List.{flat_map, enumerate_from}
+use Rattle.std.specs.Str.{byte}
+use Rattle.mlt_tree.specs.declared.group.TheConstants.{MOST_WORDS}
+use Rattle.mlt_tree.specs.declared.group.Group.{Group}
+use Rattle.mlt_tree.specs.declared.group.Prop.{Prop}
+use Rattle.mlt_tree.specs.declared.table.Row.{Row}
+use Rattle.mlt_tree.specs.Table.{row_of, name_of}
+use Rattle.mlt_tree.specs.Words.{groups}
+
+-- the word of a property, with its place
+abbrev pub prop_word : Prop → ℕ × List ℕ
+prop_word prop = (prop.place, prop.name ++ (byte "=" ∷ prop.value))
+
+abbrev pub own_words_by : Group → Option Row → List (ℕ × List ℕ)
+own_words_by group None = (group.place, group.arg) ∷ []
+own_words_by group (Some row) =
+    (group.place, name_of row) ∷ (if row.argument then (group.place + 1, group.arg) ∷ [] else [])
+
+-- a producer is its word; an option its name, and then its argument where it takes one
+abbrev pub own_words : Group → List (ℕ × List ℕ)
+own_words group = own_words_by group (row_of group.kind)
+
+abbrev pub words_of : Group → List (ℕ × List ℕ)
+words_of group = own_words group ++ map prop_word group.props
+
+-- no word is lost, made or moved: those of the groups, in order, are the words that were read
+abbrev pub KeepsWords : Type 0
+KeepsWords = (words : List (List ℕ)) (gs : List Group) → groups words ≡ Ok gs → flat_map words_of gs ≡ enumerate_from 0 words
+
+-- whether groups of this option have an argument; a producer's is its word
+abbrev pub takes_argument : Option Row → Bool
+takes_argument None = true
+takes_argument (Some row) = row.argument
+
+-- whether they may have properties
+abbrev pub takes_properties : Option Row → Bool
+takes_properties None = true
+takes_properties (Some row) = row.properties
+
+pub record IsAllowedProp (prop : Prop) : Type 0 where
+  pub place : prop.place < MOST_WORDS
+  pub named : 0 < length prop.name
+
+-- a group that words can have: its places are few, and it has an argument, or properties, only where it may
+pub record IsAllowed (group : Group) : Type 0 where
+  pub place : group.place < MOST_WORDS
+  pub argument : takes_argument (row_of group.kind) ≡ false → group.arg ≡ []
+  pub properties : takes_properties (row_of group.kind) ≡ false → group.props ≡ []
+  pub each : All IsAllowedProp group.props
+
+abbrev pub GivesAllowed : Type 0
+GivesAllowed = (words : List (List ℕ)) (gs : List Group) → groups words ≡ Ok gs → All IsAllowed gs

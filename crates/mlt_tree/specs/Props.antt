@@ -1,0 +1,51 @@
+-- The value of a property: of several with one name the last counts, and a fault is at its own word.
+use Rattle.std.specs.Prelude.{ℕ, ◌+◌, Bool, ◌&&◌, nat_le, if◌then◌else◌, ℤ, pos, negsuc, neg_ℤ, List, [], ◌∷◌, fold, Option, None, Some, Result, Ok, Err}
+use Rattle.std.specs.Str.{bytes_eq}
+use Rattle.mlt_base.specs.Time.{time}
+use Rattle.mlt_base.specs.Whole.{whole}
+use Rattle.mlt_tree.specs.declared.group.Prop.{Prop}
+use Rattle.mlt_tree.specs.declared.refusal.Cause.TheVariants.{OutOfRange, BadValue}
+use Rattle.mlt_tree.specs.declared.refusal.Refusal.{Refusal}
+use Rattle.mlt_tree.specs.Refusing.{◌>>=◌, refuse, known, at_word}
+use Rattle.mlt_tree.specs.Show.{Fraction}
+
+-- this property, where it has the name, else the one found before
+abbrev pub later : List ℕ → Option Prop → Prop → Option Prop
+later name found prop = if bytes_eq prop.name name then Some prop else found
+
+-- the last property of the name
+abbrev pub last_named : List ℕ → List Prop → Option Prop
+last_named name props = fold (later name) None props
+
+-- what a reader makes of the property, by its place and value, or the default where there is none
+abbrev pub read_prop : {A : Type 0} → (ℕ → List ℕ → Result A Refusal) → A → Option Prop → Result A Refusal
+read_prop read default None = Ok default
+read_prop read default (Some prop) = read prop.place prop.value
+
+-- the same, where a missing property stands for nothing
+abbrev pub read_given : {A : Type 0} → (ℕ → List ℕ → Result A Refusal) → Option Prop → Result (Option A) Refusal
+read_given read None = Ok None
+read_given read (Some prop) = read prop.place prop.value >>= λ x. Ok (Some x)
+
+-- a whole number from low to high, none of them below 0
+abbrev pub within : ℕ → ℕ → ℕ → ℤ → Result ℕ Refusal
+within low high place (pos n) =
+    if nat_le low n && nat_le n high then Ok n else refuse place (OutOfRange (pos n) (pos low) (pos high))
+within low high place (negsuc n) = refuse place (OutOfRange (negsuc n) (pos low) (pos high))
+
+unfoldable pub counted : ℕ → ℕ → ℕ → List ℕ → Result ℕ Refusal
+counted low high place text = at_word place (whole text) >>= within low high place
+
+-- how far a whole number is from 0, at most high
+abbrev pub size_within : ℕ → ℕ → ℤ → Result ℕ Refusal
+size_within high place (pos n) =
+    if nat_le n high then Ok n else refuse place (OutOfRange (pos n) (neg_ℤ (pos high)) (pos high))
+size_within high place (negsuc n) =
+    if nat_le (n + 1) high then Ok (n + 1) else refuse place (OutOfRange (negsuc n) (neg_ℤ (pos high)) (pos high))
+
+unfoldable pub sized : ℕ → ℕ → List ℕ → Result ℕ Refusal
+sized high place text = at_word place (whole text) >>= size_within high place
+
+-- a position at this rate
+unfoldable pub timed : Fraction → ℕ → List ℕ → Result ℕ Refusal
+timed rate place text = at_word place (time rate.num rate.den text)

@@ -1,0 +1,34 @@
+-- Steps that may be refused, one after another.
+use Rattle.std.specs.Prelude.{ℕ, List, [], ◌∷◌, Option, None, Some, Result, Ok, Err}
+use Rattle.mlt_base.specs.declared.fault.NumFault.{NumFault}
+use Rattle.mlt_tree.specs.declared.refusal.Cause.{Cause}
+use Rattle.mlt_tree.specs.declared.refusal.Cause.TheVariants.{BadNumber}
+use Rattle.mlt_tree.specs.declared.refusal.Refusal.{Refusal}
+
+-- a step that passes its refusal on
+infixl 10 ◌>>=◌
+abbrev pub ◌>>=◌ : {A B : Type 0} → Result A Refusal → (A → Result B Refusal) → Result B Refusal
+(Ok x) >>= f = f x
+(Err refusal) >>= f = Err refusal
+
+-- the refusal of a word, in the run's own words
+abbrev pub refusal_at : ℕ → Cause → Refusal
+refusal_at place cause = record { word = place; inner = None; cause = cause }
+
+abbrev pub refuse : {A : Type 0} → ℕ → Cause → Result A Refusal
+refuse place cause = Err (refusal_at place cause)
+
+-- refused for this cause where there is nothing
+abbrev pub known : {A : Type 0} → ℕ → Cause → Option A → Result A Refusal
+known place cause None = refuse place cause
+known place cause (Some x) = Ok x
+
+-- a number's fault is the word's refusal
+abbrev pub at_word : {A : Type 0} → ℕ → Result A NumFault → Result A Refusal
+at_word place (Ok x) = Ok x
+at_word place (Err fault) = refuse place (BadNumber fault)
+
+-- a step for each element in order, up to the first that is refused
+abbrev pub over : {S X : Type 0} → (S → X → Result S Refusal) → S → List X → Result S Refusal
+over step s [] = Ok s
+over step s (x ∷ xs) = step s x >>= λ t. over step t xs
