@@ -1,5 +1,5 @@
 -- A block that is lent and brought home again.
-use Rattle.std.proofs.Common.{ℕ, ◌≡◌, ◌+◌, ◌<◌, sym, subst, arith}
+use Rattle.std.proofs.Common.{ℕ, ◌≡◌, ◌<◌, sym, subst, arith}
 use Rattle.mlt_pool.specs.Class.{class_of}
 use Rattle.mlt_pool.specs.Counts.{Counts, home_of, lent_of, IsOneLent}
 

@@ -1,5 +1,5 @@
 -- A port to which the positions are appended one after another.
-use Rattle.std.proofs.Common.{ℕ, ◌≡◌, ◌+◌, ◌<◌, suc, List, ◌++◌, length, take, Option, None, Some, IfSome, IsSomeAnd, refl, sym, ap, ◌∙◌, subst, add-one, length-append}
+use Rattle.std.proofs.Common.{ℕ, ◌≡◌, ◌+◌, List, ◌++◌, take, Option, None, Some, IfSome, IsSomeAnd, refl, sym, ap, ◌∙◌, subst, add-one, length-append}
 use Rattle.mlt_host.specs.Host.{PortState, appended, cut_short}
 use Rattle.mlt_tree.specs.Show.{Show, video_of, video_front}
 use Rattle.melt_run.specs.Play.{fronted, IsCut}

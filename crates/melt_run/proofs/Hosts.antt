@@ -1,5 +1,5 @@
 -- What one call after another changes on a host.
-use Rattle.std.proofs.Common.{ℕ, ◌≡◌, ◌≢◌, ◌∙◌}
+use Rattle.std.proofs.Common.{◌∙◌}
 use Rattle.mlt_base.specs.declared.port.Port.{Port}
 use Rattle.mlt_host.specs.Host.{HostState, OnlyPort}
 

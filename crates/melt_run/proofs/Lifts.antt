@@ -1,7 +1,6 @@
 -- What a run leaves, counted from before the words were read.
-use Rattle.std.proofs.Common.{ℕ, ◌≡◌, ◌≢◌, ◌⊎◌, ◌+◌, ◌≤◌, List, [], ◌∷◌, ◌++◌, length, take, Option, None, Some, IfSome, IsSomeAnd, refl, sym, subst, ◌∙◌, ap, arith}
+use Rattle.std.proofs.Common.{ℕ, ◌≡◌, ◌⊎◌, ◌≤◌, List, [], ◌∷◌, ◌++◌, length, Option, IfSome, IsSomeAnd, refl, sym, subst, ◌∙◌, arith}
 use Rattle.std.proofs.Math.Seq.{take-length}
-use Rattle.mlt_base.specs.declared.port.Port.{Port}
 use Rattle.mlt_base.specs.declared.port.Port.TheVariants.{Video, Text}
 use Rattle.mlt_host.specs.Host.{HostState, PortState, OnlyPort, OnlyLoads, Rose, appended, cut_short}
 use Rattle.mlt_tree.specs.declared.refusal.Refusal.{Refusal}
@@ -11,7 +10,7 @@ use Rattle.mlt_tree.specs.Reading.{Reading, TextJob, job_text}
 use Rattle.mlt_tree.specs.Lines.{memory_line}
 use Rattle.melt_run.specs.declared.status.Status.{Status}
 use Rattle.melt_run.specs.declared.status.Status.TheVariants.{Done, Refused, SinkFault, Memory}
-use Rattle.melt_run.specs.Ends.{ChangesVideoAndText, ChangesText, EndsShow, EndsPrint, EndsRefused, PrintsOrTells, Ends}
+use Rattle.melt_run.specs.Ends.{ChangesText, EndsShow, EndsPrint, EndsRefused, PrintsOrTells, Ends}
 use Rattle.melt_run.specs.Outcome.{Tells, AsksFor}
 use Rattle.melt_run.specs.Play.{Plays}
 use Rattle.melt_run.specs.Prepared.{Asks}

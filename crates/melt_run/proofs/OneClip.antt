@@ -1,9 +1,9 @@
 -- What a composition of one clip of one colour has at its positions.
-use Rattle.std.proofs.Common.{ℕ, ◌≡◌, ◌+◌, ◌-◌, ◌<◌, ◌≤◌, zero, suc, Bool, true, false, cond, ltb, List, [], ◌∷◌, ◌++◌, length, map, Option, None, Some, unwrap_or, option_map, slice_get, refl, sym, ap, ◌∙◌, arith, append-nil}
+use Rattle.std.proofs.Common.{ℕ, ◌≡◌, ◌+◌, ◌-◌, ◌<◌, ◌≤◌, zero, suc, false, cond, ltb, List, [], ◌∷◌, length, map, Option, Some, unwrap_or, option_map, slice_get, refl, ap, ◌∙◌, arith, append-nil}
 use Rattle.std.proofs.lemmas.Bool.Decides.{nat_tests}
 use Rattle.mlt_base.specs.Colour.{Pixel}
 use Rattle.mlt_tree.specs.declared.tree.SourceKind.TheVariants.{Colour}
-use Rattle.mlt_tree.specs.Tree.{Tree, Tracks, Src, Part, Seq, Rows, End, Then, NoTrack, Track, Matter, Pictures, mean, presence, needs, needs_of_rows, alone, shown_set}
+use Rattle.mlt_tree.specs.Tree.{Tracks, Src, Part, Seq, End, Then, NoTrack, Track, Matter, Pictures, mean, presence, needs, needs_of_rows, alone, shown_set}
 use Rattle.mlt_tree.specs.Show as meaning
 use Rattle.mlt_tree.specs.Show.{Show, video_of, picture_at, packed, pictures, picture_of, pixels_of, loads_to}
 use Rattle.mlt_tree.specs.Picture.{plain, clear}

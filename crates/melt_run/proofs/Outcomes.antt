@@ -1,15 +1,15 @@
 -- What a run leaves on each port, and what it leaves alone.
-use Rattle.std.proofs.Common.{ℕ, ◌≡◌, ◌≢◌, ◌⊎◌, ◌+◌, ◌<◌, ◌≤◌, zero, suc, List, [], ◌++◌, length, take, drop, Option, None, Some, IfSome, refl, sym, ap, ◌∙◌, subst, inl, inr, arith, append_assoc, append-nil, take-append-drop}
+use Rattle.std.proofs.Common.{ℕ, ◌≡◌, ◌≢◌, ◌⊎◌, ◌+◌, ◌<◌, ◌≤◌, zero, suc, List, [], ◌++◌, take, drop, Option, None, Some, IfSome, refl, sym, ap, ◌∙◌, subst, inl, inr, arith, append_assoc, append-nil, take-append-drop}
 use Rattle.std.proofs.lemmas.Bool.{cases_lt}
 use Rattle.mlt_base.specs.declared.port.Port.{Port}
 use Rattle.mlt_base.specs.declared.port.Port.TheVariants.{Video, Audio, Script, Text}
-use Rattle.mlt_host.specs.Host.{HostState, PortState, OnlyPort, Rose}
+use Rattle.mlt_host.specs.Host.{HostState, PortState}
 use Rattle.mlt_tree.specs.Reading as meaning
 use Rattle.mlt_tree.specs.Reading.{Reading, Written, written}
 use Rattle.mlt_tree.specs.Show.{Show, frames_of, video_of, video_front, video_bytes}
 use Rattle.melt_run.specs.declared.status.Status.{Status}
 use Rattle.melt_run.specs.declared.status.Status.TheVariants.{Done, Refused, SinkFault, Memory}
-use Rattle.melt_run.specs.Play.{fronted, IsCut, StopsAt, Stops, Plays}
+use Rattle.melt_run.specs.Play.{fronted, IsCut, Stops, Plays}
 use Rattle.melt_run.specs.Outcome.{HasFrontOf, Leaves, Keeps}
 use Rattle.melt_run.specs.Ends.{Ends, ChangesVideoAndText, ChangesText}
 

@@ -1,9 +1,7 @@
 -- Frames of one colour, byte by byte.
-use Rattle.std.proofs.Common.{ℕ, ◌≡◌, ◌+◌, ◌*◌, ◌%◌, ◌/◌, ◌<◌, ◌≤◌, zero, suc, Bool, true, false, cond, ltb, eqb, List, [], ◌∷◌, ◌++◌, length, get_or, replicate, refl, sym, ap, ◌∙◌, arith, add_assoc}
-use Rattle.std.specs.List.{concat}
-use Rattle.std.proofs.lemmas.Bool.Decides.{nat_tests}
+use Rattle.std.proofs.Common.{ℕ, ◌≡◌, ◌*◌, ◌%◌, ◌<◌, zero, suc, cond, eqb, List, [], ◌∷◌, length, get_or, refl, ap, ◌∙◌, arith}
 use Rattle.mlt_base.specs.Colour.{Pixel}
-use Rattle.mlt_tree.specs.Picture.{plain, pixel_bytes, over_black, on_black}
+use Rattle.mlt_tree.specs.Picture.{plain, over_black, on_black}
 use Rattle.melt_run.specs.Pixels.{painted}
 
 -- the byte at a place of such a frame

@@ -1,5 +1,5 @@
 -- Counts of faults that rise, and the accounts of a show whose positions are made of one picture each.
-use Rattle.std.proofs.Common.{ℕ, ◌≡◌, ◌+◌, ◌<◌, ◌≤◌, sym, ap, subst, inl, inr, ⊎_elim, arith}
+use Rattle.std.proofs.Common.{ℕ, ◌≡◌, ◌+◌, ◌≤◌, sym, ap, subst, inl, inr, arith}
 use Rattle.mlt_host.specs.Host.{Rose}
 use Rattle.mlt_tree.specs.Show.{Show, loads_to}
 use Rattle.melt_run.specs.Play.{full_tally, stopped_tally}

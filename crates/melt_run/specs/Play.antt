@@ -1,6 +1,5 @@
 -- What playing leaves on the port Video, by its answer.
-use Rattle.std.specs.Prelude.{◌≡◌, ◌⊎◌, ◌<◌, ◌+◌, ◌++◌, ℕ, List, length, take, Option, IfSome}
-use Rattle.mlt_base.specs.declared.port.Port.{Port}
+use Rattle.std.specs.Prelude.{◌≡◌, ◌⊎◌, ◌<◌, ◌+◌, ◌++◌, ℕ, length, take, Option, IfSome}
 use Rattle.mlt_base.specs.declared.port.Port.TheVariants.{Video}
 use Rattle.mlt_host.specs.Host.{PortState, Rose}
 use Rattle.mlt_tree.specs.Show.{Show, frames_of, video_of, video_front, loads_to}

@@ -1,5 +1,4 @@
 -- What the types of services mean.
-use Rattle.std.specs.Prelude.{ℕ, List}
 use Rattle.mlt_tree.specs.Services as meaning
 use Rattle.melt_run.specs.declared.service.Service.{Service}
 use Rattle.melt_run.specs.declared.service.Service.TheVariants.{Colour, Picture, Sound, Melt}

@@ -1,5 +1,5 @@
 -- What a composition as far as it is read means.
-use Rattle.std.specs.Prelude.{◌≡◌, ℕ, Result, Ok, Err, Option}
+use Rattle.std.specs.Prelude.{◌≡◌, Result, Ok, Err}
 use Rattle.std.specs.Option.{option_map}
 use Rattle.mlt_tree.specs.Reading as meaning
 use Rattle.mlt_tree.specs.declared.refusal.Refusal.{Refusal}

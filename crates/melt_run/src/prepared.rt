@@ -57,11 +57,20 @@ fn is_query(group: &Group) -> bool
     }
 }
 
-fn is_later_job(group: &Group) -> bool
-    ensures { result ≡ meaning.is_later_job group.now }
+fn is_serialise(group: &Group) -> bool
+    ensures { result ≡ meaning.is_serialise group.now }
 {
     match group.kind {
-        GroupKind::Serialise | GroupKind::Generate => true,
+        GroupKind::Serialise => true,
+        _ => false,
+    }
+}
+
+fn is_generate(group: &Group) -> bool
+    ensures { result ≡ meaning.is_generate group.now }
+{
+    match group.kind {
+        GroupKind::Generate => true,
         _ => false,
     }
 }
@@ -125,15 +134,36 @@ fn query(groups: &[Group]) -> Prepared
     }
 }
 
-fn later_job(groups: &[Group]) -> Option<&Group>
-    ensures { option_copied result ≡ find meaning.is_later_job groups.now }
+fn find_serialise(groups: &[Group]) -> Option<&Group>
+    ensures { option_copied result ≡ find meaning.is_serialise groups.now }
 {
     for group in groups {
-        if is_later_job(group) {
+        if is_serialise(group) {
             return Some(group);
         }
     }
     None
+}
+
+fn find_generate(groups: &[Group]) -> Option<&Group>
+    ensures { option_copied result ≡ find meaning.is_generate groups.now }
+{
+    for group in groups {
+        if is_generate(group) {
+            return Some(group);
+        }
+    }
+    None
+}
+
+/// The first `-serialise`, else the first `-generate`: the jobs that are not built yet.
+fn later_job(groups: &[Group]) -> Option<&Group>
+    ensures { option_copied result ≡ meaning.later_job groups.now }
+{
+    match find_serialise(groups) {
+        Some(group) => Some(group),
+        None => find_generate(groups),
+    }
 }
 
 fn play(alloc: Global, count: u32, groups: &[Group]) -> Prepared

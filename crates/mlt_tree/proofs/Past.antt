@@ -1,9 +1,8 @@
 -- Past its length a tree has nothing and needs nothing.
-use Rattle.std.proofs.Common.{ℕ, ◌≡◌, ◌+◌, ◌-◌, ◌≤◌, ◌<◌, Bool, true, false, max, ltb, cond, nat_eq, List, [], ◌∷◌, ◌++◌, Option, None, Some, refl, ap, ◌∙◌, arith}
+use Rattle.std.proofs.Common.{ℕ, ◌≡◌, ◌+◌, ◌-◌, ◌≤◌, Bool, true, false, ltb, cond, nat_eq, List, [], ◌++◌, None, refl, ap, ◌∙◌, arith}
 use Rattle.std.proofs.lemmas.Bool.Decides.{nat_tests}
 use Rattle.mlt_tree.specs.Tree.{Tree, Parts, Tracks, Src, Blank, Part, Seq, Rows, End, Then, NoTrack, Track, Medium, Pictures, Matter, makes, hides, mean, mean_in, rows, shown, or_under, len, len_in, longest, presence, alone, shown_set, needs, needs_in, needs_of_rows}
 use Rattle.std.specs.List.{list_any}
-use Rattle.mlt_tree.specs.declared.tree.SourceKind.{SourceKind}
 
 -- a test that fails chooses the second
 not_below : {B : Type 0} → (n k : ℕ) → (x y : B) → k ≤ n → cond (ltb n k) x y ≡ y

@@ -1,16 +1,8 @@
 -- The definitions, tried on worked compositions: each line is checked by computing both of its sides.
-use Rattle.std.specs.Prelude.{ℕ, ◌≡◌, refl, List, [], ◌∷◌, Option, None, Some, codes, pos}
+use Rattle.std.specs.Prelude.{◌≡◌, refl, Some, codes}
 use Rattle.std.specs.Fmt.{digits}
-use Rattle.mlt_base.specs.declared.port.Port.TheVariants.{Video}
-use Rattle.mlt_base.specs.Reading.{digits_at, end_at}
-use Rattle.mlt_base.specs.Whole.{whole, digits_to_end, positive, negative}
-use Rattle.mlt_base.specs.Profile.{profile, spelled, pair, field, within}
-use Rattle.mlt_base.specs.Cut.{cut}
-use Rattle.mlt_base.specs.Time.{time, form_of, behind_first}
-use Rattle.mlt_base.specs.Samples.{most_samples}
 use Rattle.mlt_tree.specs.declared.refusal.Cause.TheVariants as cause
 use Rattle.mlt_tree.specs.Refusing.{refusal_at}
-use Rattle.mlt_tree.specs.Reading.{reading, no_files, Refused, written, Written}
 use Rattle.mlt_tree.specs.Lines.{refusal_line}
 
 no_clip_line : refusal_line (refusal_at 4 cause.NoProducer) ≡ codes "melt: word 4: nothing to play\n"

@@ -1,5 +1,5 @@
 -- Pictures as lists of bytes: four a pixel, which are red, green, blue and alpha; rows from the top.
-use Rattle.std.specs.Prelude.{ℕ, ◌+◌, ◌*◌, ◌/◌, List, [], ◌∷◌, ◌++◌, replicate}
+use Rattle.std.specs.Prelude.{ℕ, ◌+◌, ◌*◌, ◌/◌, List, [], ◌∷◌, replicate}
 use Rattle.std.specs.List.{concat}
 use Rattle.mlt_base.specs.Colour.{Pixel}
 

@@ -1,12 +1,12 @@
 -- The value of a property: of several with one name the last counts, and a fault is at its own word.
-use Rattle.std.specs.Prelude.{ℕ, ◌+◌, Bool, ◌&&◌, nat_le, if◌then◌else◌, ℤ, pos, negsuc, neg_ℤ, List, [], ◌∷◌, fold, Option, None, Some, Result, Ok, Err}
+use Rattle.std.specs.Prelude.{ℕ, ◌+◌, ◌&&◌, nat_le, if◌then◌else◌, ℤ, pos, negsuc, neg_ℤ, List, fold, Option, None, Some, Result, Ok}
 use Rattle.std.specs.Str.{bytes_eq}
 use Rattle.mlt_base.specs.Time.{time}
 use Rattle.mlt_base.specs.Whole.{whole}
 use Rattle.mlt_tree.specs.declared.group.Prop.{Prop}
-use Rattle.mlt_tree.specs.declared.refusal.Cause.TheVariants.{OutOfRange, BadValue}
+use Rattle.mlt_tree.specs.declared.refusal.Cause.TheVariants.{OutOfRange}
 use Rattle.mlt_tree.specs.declared.refusal.Refusal.{Refusal}
-use Rattle.mlt_tree.specs.Refusing.{◌>>=◌, refuse, known, at_word}
+use Rattle.mlt_tree.specs.Refusing.{◌>>=◌, refuse, at_word}
 use Rattle.mlt_tree.specs.Show.{Fraction}
 
 -- this property, where it has the name, else the one found before

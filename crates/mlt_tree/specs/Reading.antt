@@ -1,5 +1,5 @@
 -- What a list of words means.
-use Rattle.std.specs.Prelude.{ℕ, ◌+◌, ◌-◌, ◌*◌, ◌^◌, Bool, true, false, ◌&&◌, ◌||◌, nat_le, nat_lt, max, min, if◌then◌else◌, List, [], ◌∷◌, ◌++◌, length, Option, None, Some, option_map, unwrap_or, Result, Ok, Err, find, codes}
+use Rattle.std.specs.Prelude.{ℕ, ◌+◌, ◌-◌, ◌*◌, ◌^◌, Bool, true, false, ◌&&◌, ◌||◌, nat_le, nat_lt, max, min, if◌then◌else◌, List, [], ◌∷◌, ◌++◌, length, Option, None, Some, unwrap_or, Result, Ok, Err, find, codes}
 use Rattle.std.specs.List.{list_any}
 use Rattle.std.specs.Str.{bytes_eq}
 use Rattle.mlt_base.specs.Colour.{Pixel, colour_of}
@@ -21,7 +21,7 @@ use Rattle.mlt_tree.specs.declared.refusal.Cause.TheVariants as cause
 use Rattle.mlt_tree.specs.declared.refusal.Refusal.{Refusal}
 use Rattle.mlt_tree.specs.declared.tree.SourceKind.TheVariants.{Colour}
 use Rattle.mlt_tree.specs.Tree.{Tree, Src, Part, Seq, Rows, End, Then, NoTrack, Track, len, need}
-use Rattle.mlt_tree.specs.Show.{Show, Size, Fraction, Settings, Source, Plain, Pix, Rgb, Rgba, pixels_of, frames_of, video_bytes}
+use Rattle.mlt_tree.specs.Show.{Show, Size, Fraction, Settings, Plain, Pix, Rgb, Rgba, pixels_of, video_bytes}
 use Rattle.mlt_tree.specs.Refusing.{◌>>=◌, refusal_at, refuse, known, over}
 use Rattle.mlt_tree.specs.Props.{last_named, read_prop, read_given, counted, sized, timed}
 use Rattle.mlt_tree.specs.Services.{Named, Service, ColourService, PictureFile, SoundFile, MeltFile, producer_of, raw_of, colour_name}
@@ -332,13 +332,22 @@ is_query g = by g.kind where
   by kind.Query = true
   by _ = false
 
--- the jobs that are not built yet
-abbrev pub is_later_job : Group → Bool
-is_later_job g = by g.kind where
+abbrev pub is_serialise : Group → Bool
+is_serialise g = by g.kind where
   by : GroupKind → Bool
   by kind.Serialise = true
+  by _ = false
+
+abbrev pub is_generate : Group → Bool
+is_generate g = by g.kind where
+  by : GroupKind → Bool
   by kind.Generate = true
   by _ = false
+
+-- the first, or the second where there is none
+abbrev pub or_else : Option Group → Option Group → Option Group
+or_else None second = second
+or_else (Some g) second = Some g
 
 abbrev pub query_named : List ℕ → Option QueryKind
 query_named text =
@@ -371,14 +380,18 @@ composed gs = do
 unfoldable pub show_of : ℕ → List Group → Result Show Refusal
 show_of count gs = composed gs >>= seal count
 
-abbrev pub later_job : Option Group → ℕ → List Group → Reading
-later_job (Some g) count gs = Refused (refusal_at g.place cause.Unsupported)
-later_job None count gs = show_read (show_of count gs)
+-- the first `-serialise`, else the first `-generate`: the jobs that are not built yet
+abbrev pub later_job : List Group → Option Group
+later_job gs = or_else (find is_serialise gs) (find is_generate gs)
+
+abbrev pub play_unless : Option Group → ℕ → List Group → Reading
+play_unless (Some g) count gs = Refused (refusal_at g.place cause.Unsupported)
+play_unless None count gs = show_read (show_of count gs)
 
 -- the first of these jobs that the words have, else to play
 abbrev pub job_of : ℕ → List Group → Reading
 job_of count gs =
-    if list_any is_version gs then Print Version else (if list_any is_query gs then query_read (over query_step None gs) else later_job (find is_later_job gs) count gs)
+    if list_any is_version gs then Print Version else (if list_any is_query gs then query_read (over query_step None gs) else play_unless (later_job gs) count gs)
 
 abbrev pub cause_of : WordCause → Cause
 cause_of word.UnknownOption = cause.UnknownOption

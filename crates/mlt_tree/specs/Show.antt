@@ -1,5 +1,5 @@
 -- What is played, and the bytes that it gives.
-use Rattle.std.specs.Prelude.{ℕ, ◌+◌, ◌-◌, ◌*◌, zero, suc, List, [], ◌∷◌, ◌++◌, length, Option, None, Some, unwrap_or, slice_get}
+use Rattle.std.specs.Prelude.{ℕ, ◌+◌, ◌-◌, ◌*◌, zero, suc, List, [], ◌++◌, length, Option, None, Some, unwrap_or, slice_get}
 use Rattle.mlt_base.specs.Colour.{Pixel}
 use Rattle.mlt_tree.specs.Picture.{plain, clear, over_black}
 use Rattle.mlt_tree.specs.Tree.{Tree, Matter, Pictures, mean, needs}

@@ -1,4 +1,4 @@
-use Rattle.std.proofs.Common.{refl, sym, ◌∙◌, arith}
+use Rattle.std.proofs.Common.{refl, sym, arith}
 use Rattle.melt_run.specs.Show.{meant}
 use Rattle.melt_run.specs.Sources.{pixel}
 use Rattle.melt_run.proofs.OneClip.{drawn, first_source}

@@ -1,4 +1,4 @@
-use Rattle.std.proofs.Common.{◌∙◌, sym}
+use Rattle.std.proofs.Common.{sym}
 use Rattle.melt_run.specs.Sources.{pixel}
 use Rattle.melt_run.proofs.Painted.{over_black-plain}
 use Rattle.melt_run.proofs.draw.paint_as.Goals as goal

@@ -1,7 +1,7 @@
-use Rattle.std.proofs.Common.{ℕ, ◌≡◌, ◌+◌, ◌-◌, IfSome, refl, ap, ◌∙◌, subst, inr, arith}
+use Rattle.std.proofs.Common.{◌≡◌, ◌+◌, IfSome, refl, ap, ◌∙◌, subst, inr, arith}
 use Rattle.mlt_base.specs.declared.port.Port.TheVariants.{Video}
 use Rattle.mlt_tree.specs.Show.{frames_of, video_of}
-use Rattle.melt_run.specs.Play.{full_tally, fronted}
+use Rattle.melt_run.specs.Play.{fronted}
 use Rattle.melt_run.specs.Show.{meant}
 use Rattle.melt_run.proofs.OneClip.{loads_clip}
 use Rattle.melt_run.proofs.Fronted.{grows, cuts}

@@ -1,6 +1,6 @@
-use Rattle.std.proofs.Common.{◌≡◌, sym, subst}
+use Rattle.std.proofs.Common.{sym, subst}
 use Rattle.std.proofs.lemmas.Option.{IfSome_then}
-use Rattle.mlt_tree.specs.Reading.{Reading, reading_on}
+use Rattle.mlt_tree.specs.Reading.{reading_on}
 use Rattle.melt_run.specs.Ends.{Ends}
 use Rattle.melt_run.specs.Show.{texts, meant}
 use Rattle.melt_run.specs.Prepared.{job_of, loads_on}

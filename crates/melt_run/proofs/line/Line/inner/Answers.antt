@@ -1,4 +1,4 @@
-use Rattle.std.proofs.Common.{codes, decimal, rules}
+use Rattle.std.proofs.Common.{codes, decimal}
 use Rattle.melt_run.proofs.Wrote.{wrote3}
 use Rattle.melt_run.proofs.line.Line.inner.Goals as goal
 
