@@ -52,13 +52,16 @@ parts_take at (b ∷ bytes) p e =
     let some : 0 < length (take n text) + length (drop n text) = omega (arith, length-append (take n text) (drop n text), ap length both) in
     subst (λ (t : List ℕ). AreParts t p) both (point_takes (at + n) (take n text) (drop n text) p (AreDigits-take text) some e)
 
-pub decimal_takes : (text : List ℕ) (n : ℕ) → decimal 0 text ≡ Ok n → IsDecimal text n × (n < 2 ^ 32)
+pub decimal_takes-at : (at : ℕ) (text : List ℕ) (n : ℕ) → decimal at text ≡ Ok n → IsDecimal text n × (n < 2 ^ 32)
 unfolding decimal
-decimal_takes text n e =
-    let first = bind_ok (decimal_parts 0 text) (λ p. below (2 ^ 32) (decimal_value p.0 p.1)) n e in
-    let p = parts_take 0 text first.0 first.1 in
+decimal_takes-at at text n e =
+    let first = bind_ok (decimal_parts at text) (λ p. below (2 ^ 32) (decimal_value p.0 p.1)) n e in
+    let p = parts_take at text first.0 first.1 in
     let v = below-takes (2 ^ 32) (decimal_value first.0.0 first.0.1) n first.2 in
     ((first.0.0, first.0.1, p.whole, p.fraction, p.some, p.spelled, v.0), v.1)
+
+pub decimal_takes : (text : List ℕ) (n : ℕ) → decimal 0 text ≡ Ok n → IsDecimal text n × (n < 2 ^ 32)
+decimal_takes text n e = decimal_takes-at 0 text n e
 
 -- the parts are found again
 parts_begin : (at : ℕ) (bytes : List ℕ) → 0 < length bytes → decimal_parts at bytes ≡ point_at (at + digit_count bytes) (take (digit_count bytes) bytes) (drop (digit_count bytes) bytes)
@@ -83,12 +86,15 @@ parts_again at text whole fraction hw hf some (inr is) =
     let one : eqb (length whole + length fraction) 0 ≡ false = ne_eqb (length whole + length fraction) 0 (λ e. omega arith) in
     ap (decimal_parts at) is ∙ (parts_begin at (whole ++ 46 ∷ fraction) (omega (arith, length-append whole (46 ∷ fraction))) ∙ rw (n, front, rest, all, ended, one) refl)
 
-whole_decimal : (text : List ℕ) (n : ℕ) → IsDecimal text n → decimal 0 text ≡ below (2 ^ 32) n
+whole_decimal : (at : ℕ) (text : List ℕ) (n : ℕ) → IsDecimal text n → decimal at text ≡ below (2 ^ 32) n
 unfolding decimal
-whole_decimal text n (whole, fraction, hw, hf, some, spelled, is) = rw (parts_again 0 text whole fraction hw hf some spelled, is) refl
+whole_decimal at text n (whole, fraction, hw, hf, some, spelled, is) = rw (parts_again at text whole fraction hw hf some spelled, is) refl
+
+pub decimal_accepted-at : (at : ℕ) (text : List ℕ) (n : ℕ) → IsDecimal text n → n < 2 ^ 32 → decimal at text ≡ Ok n
+decimal_accepted-at at text n d small = whole_decimal at text n d ∙ sym (below_ok (2 ^ 32) n n small refl)
 
 pub decimal_accepted : (text : List ℕ) (n : ℕ) → IsDecimal text n → n < 2 ^ 32 → decimal 0 text ≡ Ok n
-decimal_accepted text n d small = whole_decimal text n d ∙ sym (below_ok (2 ^ 32) n n small refl)
+decimal_accepted text n d small = decimal_accepted-at 0 text n d small
 
 pub decimal_large : (text : List ℕ) (n : ℕ) → IsDecimal text n → 2 ^ 32 ≤ n → decimal 0 text ≡ Err TooLarge
-decimal_large text n d large = whole_decimal text n d ∙ sym (below_err (2 ^ 32) n large)
+decimal_large text n d large = whole_decimal 0 text n d ∙ sym (below_err (2 ^ 32) n large)

@@ -1,10 +1,14 @@
 pub mod Below
+pub mod Cuts
 pub mod Decimals
 pub mod Groups
 pub mod Times
 pub mod Keys
 pub mod Forms
 pub mod WholeForms
+pub mod ProfileForms
+pub mod GeometryForms
+pub mod AnimationForms
 pub mod DecimalForms
 pub mod TimeForms
 pub mod Rising

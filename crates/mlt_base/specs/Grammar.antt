@@ -1,5 +1,12 @@
--- Which texts are numbers and times, and what they mean, said apart from any reader.
-use Rattle.std.specs.Prelude.{◌≡◌, ℕ, ◌+◌, ◌<◌, ◌≤◌, ◌⊎◌, Bool, true, false, ℤ, pos, neg_ℤ, List, [], ◌∷◌, ◌++◌, length}
+-- Which texts are numbers, times, profiles, geometries and animations, and what they mean, said apart from any reader.
+use Rattle.std.specs.Prelude.{◌≡◌, ℕ, ◌+◌, ◌*◌, ◌/◌, ◌^◌, ◌<◌, ◌≤◌, ◌⊎◌, Bool, true, false, min, max, ℤ, pos, neg_ℤ, unsigned_abs, List, [], ◌∷◌, ◌++◌, length}
+use Rattle.std.specs.List.{Any}
+use Rattle.mlt_base.specs.declared.table.NamedProfile.{NamedProfile}
+use Rattle.mlt_base.specs.declared.table.TheConstants.{PROFILES}
+use Rattle.mlt_base.specs.Profile.{Measures, name_of}
+use Rattle.mlt_base.specs.Geometry.{Place, hundredths}
+use Rattle.mlt_base.specs.declared.animation.Key.{Key}
+use Rattle.mlt_base.specs.Animation.{constant}
 use Rattle.mlt_base.specs.Reading.{AreDigits, IsNumeral, number}
 use Rattle.mlt_base.specs.Decimal.{decimal_value}
 use Rattle.mlt_base.specs.Time.{Form, Frames, Clock, Counted}
@@ -44,3 +51,85 @@ IsTime text (Clock hours minutes seconds fraction) =
     ⊎ (IsNumeral fraction × (length fraction ≤ 3) × (text ≡ clock_text hours minutes seconds ++ 46 ∷ fraction)))
 IsTime text (Counted hours minutes seconds frames) =
     IsClock hours minutes seconds × IsNumeral frames × (text ≡ clock_text hours minutes seconds ++ 58 ∷ frames)
+
+-- ---- profiles
+
+abbrev pub measures_of : NamedProfile → Measures
+measures_of row = record { width = row.width; height = row.height; num = row.num; den = row.den }
+
+-- `WxH@num/den`
+abbrev pub profile_text : List ℕ → List ℕ → List ℕ → List ℕ → List ℕ
+profile_text width height num den = (width ++ 120 ∷ height) ++ 64 ∷ (num ++ 47 ∷ den)
+
+-- the text spells these measures
+abbrev pub IsProfile : List ℕ → Measures → Type 0
+IsProfile text m =
+    (width : List ℕ) × (height : List ℕ) × (num : List ℕ) × (den : List ℕ)
+    × IsNumeral width × IsNumeral height × IsNumeral num × IsNumeral den
+    × (text ≡ profile_text width height num den)
+    × (m ≡ record { width = number width; height = number height; num = number num; den = number den })
+
+-- each side is 1 to 4096 pixels, num and den are 1 to 100,000, and the rate is 1 to 1000
+abbrev pub IsWithin : Measures → Type 0
+IsWithin m = (1 ≤ m.width) × (m.width ≤ 4096) × (1 ≤ m.height) × (m.height ≤ 4096) × (1 ≤ m.den) × (m.num ≤ 100000) × (m.den ≤ m.num) × (m.num ≤ 1000 * m.den)
+
+-- the text is a name of the table, which has these measures
+abbrev pub IsNamed : List ℕ → Measures → Type 0
+IsNamed text m = Any (λ row. (text ≡ name_of row) × (m ≡ measures_of row)) PROFILES
+
+-- ---- geometries
+
+-- pixels, or hundredths of a size and `%`
+abbrev pub IsOffset : ℕ → List ℕ → ℤ → Type 0
+IsOffset size text at =
+    (IsWhole text at × (unsigned_abs at ≤ 16384))
+    ⊎ ((front : List ℕ) × (n : ℤ) × IsWhole front n × (unsigned_abs n ≤ 1000) × (text ≡ front ++ 37 ∷ []) × (at ≡ hundredths size n))
+
+abbrev pub IsExtent : ℕ → List ℕ → ℕ → Type 0
+IsExtent size text long =
+    (IsWhole text (pos long) × (1 ≤ long) × (long ≤ 4096))
+    ⊎ ((front : List ℕ) × (n : ℕ) × IsWhole front (pos n) × (1 ≤ n) × (n ≤ 1000) × (text ≡ front ++ 37 ∷ []) × (long ≡ max 1 (min 4096 (n * size / 100))))
+
+-- `X/Y` or `X,Y`
+abbrev pub IsCorner : ℕ → ℕ → List ℕ → Place → Type 0
+IsCorner width height text p =
+    (x : List ℕ) × (y : List ℕ) × IsOffset width x p.x × IsOffset height y p.y × ((text ≡ x ++ 47 ∷ y) ⊎ (text ≡ x ++ 44 ∷ y))
+
+-- `WxH`
+abbrev pub IsArea : ℕ → ℕ → List ℕ → Place → Type 0
+IsArea width height text p = (w : List ℕ) × (h : List ℕ) × IsExtent width w p.width × IsExtent height h p.height × (text ≡ w ++ 120 ∷ h)
+
+-- `X/Y:WxH` or `X/Y:WxH:O`
+abbrev pub IsGeometry : ℕ → ℕ → List ℕ → Place → Type 0
+IsGeometry width height text p =
+    (corner : List ℕ) × (area : List ℕ) × IsCorner width height corner p × IsArea width height area p
+    × (((text ≡ corner ++ 58 ∷ area) × (p.opacity ≡ 100))
+    ⊎ ((opacity : List ℕ) × IsWhole opacity (pos p.opacity) × (p.opacity ≤ 100) × (text ≡ corner ++ 58 ∷ (area ++ 58 ∷ opacity))))
+
+-- ---- animations
+
+-- `=` and a value, or `|=` and a value at a discrete key
+abbrev pub sign_text : Bool → List ℕ → List ℕ
+sign_text false value = 61 ∷ value
+sign_text true value = 124 ∷ 61 ∷ value
+
+-- `frame=value`
+abbrev pub IsKey : List ℕ → Key → Type 0
+IsKey text key =
+    (frame : List ℕ) × (value : List ℕ) × IsNumeral frame × (number frame ≡ key.frame) × IsDecimal value key.value.0
+    × (text ≡ frame ++ sign_text key.discrete value)
+
+-- keys with `;` between them, and perhaps one behind the last
+abbrev pub AreKeys : List ℕ → Key → List Key → Type 0
+AreKeys text key [] = IsKey text key ⊎ ((front : List ℕ) × IsKey front key × (text ≡ front ++ 59 ∷ []))
+AreKeys text key (next ∷ keys) = (front : List ℕ) × (rest : List ℕ) × IsKey front key × AreKeys rest next keys × (text ≡ front ++ 59 ∷ rest)
+
+-- the text is these keys, or one value for all frames
+abbrev pub IsAnimation : List ℕ → List Key → Type 0
+IsAnimation text [] = ⊥
+IsAnimation text (key ∷ keys) = AreKeys text key keys ⊎ (IsDecimal text key.value.0 × (key ∷ keys ≡ constant key.value.0 ∷ []))
+
+-- each value is below 65536
+abbrev pub AreHeld : List Key → Type 0
+AreHeld [] = Unit {0}
+AreHeld (key ∷ keys) = (key.value.0 < 2 ^ 32) × AreHeld keys

@@ -3,15 +3,19 @@
 //! Each function here does nothing; its contract is the law, over the definitions that the readers
 //! meet exactly.
 
-ghost use Rattle.std.specs.Prelude.{◌≡◌, ℕ, ◌^◌, ◌<◌, ◌≤◌, ℤ, FitsSigned, List, [], ◌∷◌, ◌++◌, None, Result, Ok, Err};
+ghost use Rattle.std.specs.Prelude.{◌≡◌, ℕ, ◌^◌, ◌<◌, ◌≤◌, ◌⊎◌, ℤ, FitsSigned, List, [], ◌∷◌, ◌++◌, Some, None, Ok, Err};
 ghost use Rattle.std.specs.Int.{w64};
+ghost use Rattle.std.specs.List.{All};
 ghost use Rattle.mlt_base.specs.declared.fault.NumFault.TheVariants.{TooLarge};
 ghost use Rattle.mlt_base.specs.Whole.{whole};
 ghost use Rattle.mlt_base.specs.Decimal.{decimal};
 ghost use Rattle.mlt_base.specs.Time.{Form, frames_of, time};
 ghost use Rattle.mlt_base.specs.declared.animation.Key.{Key};
-ghost use Rattle.mlt_base.specs.Animation.{Rises, between, value_at};
-ghost use Rattle.mlt_base.specs.Grammar.{IsWhole, IsDecimal, IsTime};
+ghost use Rattle.mlt_base.specs.Animation.{Rises, between, value_at, animation};
+ghost use Rattle.mlt_base.specs.declared.table.TheConstants.{PROFILES};
+ghost use Rattle.mlt_base.specs.Profile.{Measures, name_of, profile};
+ghost use Rattle.mlt_base.specs.Geometry.{Place, geometry};
+ghost use Rattle.mlt_base.specs.Grammar.{IsWhole, IsDecimal, IsTime, measures_of, IsNamed, IsProfile, IsWithin, IsGeometry, IsAnimation, AreHeld};
 
 /// Exactly the whole numbers that fit are read, each as itself; the others are too large.
 pub fn whole_numbers()
@@ -34,6 +38,26 @@ pub fn times()
     ensures accepted { (num den : ℕ) (text : List ℕ) (form : Form) → IsTime text form → frames_of num den form < 2 ^ 31 → time num den text ≡ Ok (frames_of num den form) }
     ensures large { (num den : ℕ) (text : List ℕ) (form : Form) → IsTime text form → 2 ^ 31 ≤ frames_of num den form → time num den text ≡ Err TooLarge }
     ensures only { (num den : ℕ) (text : List ℕ) (n : ℕ) → time num den text ≡ Ok n → (form : Form) × IsTime text form × (n ≡ frames_of num den form) × (n < 2 ^ 31) }
+{}
+
+/// Exactly the names of the table and the spelled profiles within the limits are read, each as its
+/// measures.
+pub fn profiles()
+    ensures named { All (λ row. profile (name_of row) ≡ Some (measures_of row)) PROFILES }
+    ensures spelled { (text : List ℕ) (m : Measures) → IsProfile text m → IsWithin m → profile text ≡ Some m }
+    ensures only { (text : List ℕ) (m : Measures) → profile text ≡ Some m → IsNamed text m ⊎ (IsProfile text m × IsWithin m) }
+{}
+
+/// Exactly the geometries are read, each as its place in a profile of this width and height.
+pub fn geometries()
+    ensures accepted { (width height : ℕ) (text : List ℕ) (p : Place) → IsGeometry width height text p → geometry width height text ≡ Some p }
+    ensures only { (width height : ℕ) (text : List ℕ) (p : Place) → geometry width height text ≡ Some p → IsGeometry width height text p }
+{}
+
+/// Exactly the animations are read whose keys rise and whose values are below 65536, each as its keys.
+pub fn animations()
+    ensures accepted { (text : List ℕ) (keys : List Key) → IsAnimation text keys → Rises None keys → AreHeld keys → animation text ≡ Ok keys }
+    ensures only { (text : List ℕ) (keys : List Key) → animation text ≡ Ok keys → IsAnimation text keys × Rises None keys × AreHeld keys }
 {}
 
 /// Before its first key an animation has the first value, from its last key on the last one, and from
