@@ -1,12 +1,12 @@
 mod Asked
-mod Blocks
 mod Counted
+mod Drawn
 mod Fronted
 mod Hosts
 mod Lifts
-mod OneClip
 mod Outcomes
-mod Over
 mod Painted
 mod Tallies
+mod Tiled
+mod Walked
 mod Wrote

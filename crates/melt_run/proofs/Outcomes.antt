@@ -6,7 +6,7 @@ use Rattle.mlt_base.specs.declared.port.Port.TheVariants.{Video, Audio, Script, 
 use Rattle.mlt_host.specs.Host.{HostState, PortState}
 use Rattle.mlt_tree.specs.Reading as meaning
 use Rattle.mlt_tree.specs.Reading.{Reading, Written, written}
-use Rattle.mlt_tree.specs.Show.{Show, frames_of, video_of, video_front, video_bytes}
+use Rattle.mlt_tree.specs.Show.{Show, written_frames, video_of, video_front, video_bytes}
 use Rattle.melt_run.specs.declared.status.Status.{Status}
 use Rattle.melt_run.specs.declared.status.Status.TheVariants.{Done, Refused, SinkFault, Memory}
 use Rattle.melt_run.specs.Play.{fronted, IsCut, Stops, Plays}
@@ -34,13 +34,13 @@ front_of show count kept (suc total) h = one_more show count kept total h (cases
 abbrev wanted_of : Show → Written
 wanted_of show = record { name = show.output.video; bytes = video_bytes show }
 
-whole_front : (show : Show) (port : PortState) → port ≡ fronted show (frames_of show) → HasFrontOf (wanted_of show) port
+whole_front : (show : Show) (port : PortState) → port ≡ fronted show (written_frames show) → HasFrontOf (wanted_of show) port
 whole_front show port is =
     subst (HasFrontOf (wanted_of show)) (sym is) (record { name = refl; front = ([], append-nil (video_bytes show)) })
 
-cut_front : (show : Show) (count : ℕ) (port : PortState) → count < frames_of show → IsCut show count port → HasFrontOf (wanted_of show) port
+cut_front : (show : Show) (count : ℕ) (port : PortState) → count < written_frames show → IsCut show count port → HasFrontOf (wanted_of show) port
 cut_front show count port short cut =
-    let more = front_of show count cut.bytes.0 (frames_of show) short in
+    let more = front_of show count cut.bytes.0 (written_frames show) short in
     record { name = cut.name; front = (more.0, ap (λ bytes. bytes ++ more.0) cut.bytes.1 ∙ more.1) }
 
 if_some : {A : Type 0} {P Q : A → Type 0} → (o : Option A) → ((x : A) → P x → Q x) → IfSome o P → IfSome o Q

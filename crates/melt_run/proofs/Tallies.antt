@@ -1,7 +1,8 @@
--- Counts of faults that rise, and the accounts of a show whose positions are made of one picture each.
-use Rattle.std.proofs.Common.{ℕ, ◌≡◌, ◌+◌, ◌≤◌, sym, ap, subst, inl, inr, arith}
+-- Counts of faults that rise, and the accounts of a show.
+use Rattle.std.proofs.Common.{ℕ, ◌≡◌, ◌+◌, ◌≤◌, length, sym, ap, subst, ◌∙◌, inl, inr, arith, add-one}
 use Rattle.mlt_host.specs.Host.{Rose}
 use Rattle.mlt_tree.specs.Show.{Show, loads_to}
+use Rattle.mlt_tree.specs.Tree.{needs}
 use Rattle.melt_run.specs.Play.{full_tally, stopped_tally}
 use Rattle.melt_run.specs.declared.status.Tally.{Tally}
 
@@ -10,10 +11,14 @@ pub rose_since : (before between now : ℕ) → before ≤ between → Rose betw
 rose_since before between now h (inl rose) = inl (omega arith)
 rose_since before between now h (inr end) = inr end
 
-pub stopped_is : (show : Show) (done : ℕ) (tally : Tally) → loads_to show done ≡ done → tally ≡ record { frames = done; loads = done; handed = done + 1; taken = done + 1; destroyed = 0 } → tally ≡ stopped_tally show tally.frames
-stopped_is show done tally loads is =
-    subst (λ t. t ≡ stopped_tally show t.frames) (sym is) (ap (λ n. record { frames = done; loads = n; handed = done + 1; taken = done + 1; destroyed = 0 }) (sym loads))
+pub stopped_is : (show : Show) (done loads : ℕ) (tally : Tally) → loads ≡ loads_to show done → tally ≡ record { frames = done; loads = loads; handed = done + 1; taken = done + 1; destroyed = 0 } → tally ≡ stopped_tally show tally.frames
+stopped_is show done loads tally exact is =
+    subst (λ t. t ≡ stopped_tally show t.frames) (sym is) (ap (λ n. record { frames = done; loads = n; handed = done + 1; taken = done + 1; destroyed = 0 }) exact)
 
-pub full_is : (show : Show) (count : ℕ) (tally : Tally) → loads_to show count ≡ count → tally ≡ record { frames = count; loads = count; handed = count; taken = count; destroyed = 0 } → tally ≡ full_tally show count
-full_is show count tally loads is =
-    subst (λ t. t ≡ full_tally show count) (sym is) (ap (λ n. record { frames = count; loads = n; handed = count; taken = count; destroyed = 0 }) (sym loads))
+pub full_is : (show : Show) (count loads : ℕ) (tally : Tally) → loads ≡ loads_to show count → tally ≡ record { frames = count; loads = loads; handed = count; taken = count; destroyed = 0 } → tally ≡ full_tally show count
+full_is show count loads tally exact is =
+    is ∙ ap (λ n. record { frames = count; loads = n; handed = count; taken = count; destroyed = 0 }) exact
+
+-- one position more
+pub loads_more : (show : Show) (count loads more : ℕ) → loads ≡ loads_to show count → more ≡ length (needs show.tree (show.output.first + count)) → loads + more ≡ loads_to show (count + 1)
+loads_more show count loads more exact is = rw (add-one) (ap (λ n. n + more) exact ∙ ap (λ n. loads_to show count + n) is)

@@ -1,12 +1,10 @@
 pub mod Ends
-pub mod Made
+pub mod Found
 pub mod Outcome
 pub mod Pixels
 pub mod Play
 pub mod Prepared
 pub mod Prints
-pub mod Service
 pub mod Show
-pub mod Sources
-pub mod State
 pub mod Status
+pub mod Text

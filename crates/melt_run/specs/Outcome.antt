@@ -5,7 +5,7 @@ use Rattle.mlt_base.specs.declared.port.Port.TheVariants.{Video, Text}
 use Rattle.mlt_host.specs.Host.{PortState, HostState, Rose, Appends, AppendsFront}
 use Rattle.mlt_tree.specs.Reading as meaning
 use Rattle.mlt_tree.specs.Reading.{Reading, Written, written, text_bytes}
-use Rattle.mlt_tree.specs.Show.{frames_of}
+use Rattle.mlt_tree.specs.Show.{written_frames}
 use Rattle.melt_run.specs.declared.status.Tally.{Tally}
 use Rattle.melt_run.specs.declared.status.Status.{Status}
 use Rattle.melt_run.specs.declared.status.Status.TheVariants.{Done, Refused, SinkFault, Memory}
@@ -31,7 +31,7 @@ IsWritten (Some wanted) old new =
 
 -- the accounts of a run that is done
 abbrev pub IsWholeTally : Reading → Tally → Type 0
-IsWholeTally (meaning.Play show) tally = tally ≡ full_tally show (frames_of show)
+IsWholeTally (meaning.Play show) tally = tally ≡ full_tally show (written_frames show)
 IsWholeTally (meaning.Print job) tally = tally ≡ no_tally
 IsWholeTally (meaning.Refused refusal) tally = ⊥
 

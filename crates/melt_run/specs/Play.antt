@@ -2,7 +2,7 @@
 use Rattle.std.specs.Prelude.{◌≡◌, ◌⊎◌, ◌<◌, ◌+◌, ◌++◌, ℕ, length, take, Option, IfSome}
 use Rattle.mlt_base.specs.declared.port.Port.TheVariants.{Video}
 use Rattle.mlt_host.specs.Host.{PortState, Rose}
-use Rattle.mlt_tree.specs.Show.{Show, frames_of, video_of, video_front, loads_to}
+use Rattle.mlt_tree.specs.Show.{Show, written_frames, video_of, video_front, loads_to}
 use Rattle.melt_run.specs.declared.status.Tally.{Tally}
 use Rattle.melt_run.specs.declared.status.Status.{Status}
 use Rattle.melt_run.specs.declared.status.Status.TheVariants.{Done, Refused, SinkFault, Memory}
@@ -37,7 +37,7 @@ pub record IsCut (show : Show) (count : ℕ) (port : PortState) : Type 0 where
 -- the append of a position has failed
 pub record StopsAt (show : Show) (tally : Tally) (new : Option PortState) : Type 0 where
   pub counts : tally ≡ stopped_tally show tally.frames
-  pub short : tally.frames < frames_of show
+  pub short : tally.frames < written_frames show
   pub cut : IfSome new (IsCut show tally.frames)
 
 -- the create has failed, and the port is as before; or an append has
@@ -47,7 +47,7 @@ Stops show tally old new = ((tally ≡ no_tally) × (new ≡ old)) ⊎ StopsAt s
 -- the answer of playing, what it leaves on Video, and how the count of Video's faults goes from before to now
 abbrev pub Plays : Show → Status → Option PortState → Option PortState → ℕ → ℕ → Type 0
 Plays show (Done tally) old new before now =
-    (tally ≡ full_tally show (frames_of show)) × IfSome new (λ port. port ≡ fronted show (frames_of show))
+    (tally ≡ full_tally show (written_frames show)) × IfSome new (λ port. port ≡ fronted show (written_frames show))
 Plays show (Refused refusal) old new before now = ⊥
 Plays show (SinkFault port tally) old new before now = (port ≡ Video) × Rose before now × Stops show tally old new
 Plays show Memory old new before now = (new ≡ old) × (now ≡ before)

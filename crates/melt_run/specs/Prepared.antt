@@ -1,36 +1,28 @@
 -- What preparing answers, against what the words mean.
-use Rattle.std.specs.Prelude.{◌≡◌, ◌<◌, ◌++◌, ℕ, List, [], length, take, map, Option, None, Some, IfSome, IsSomeAnd}
-use Rattle.mlt_base.specs.Colour.{Pixel}
+use Rattle.std.specs.Prelude.{◌≡◌, ◌++◌, ℕ, List, [], take, map, Option, None, Some, IfSome, IsSomeAnd}
 use Rattle.mlt_tree.specs.Reading as meaning
 use Rattle.mlt_tree.specs.Reading.{Reading, Files, reading_on, loads}
+use Rattle.mlt_tree.specs.Show.{Source}
+use Rattle.mlt_tree.specs.Sources.{Fits}
+use Rattle.mlt_graph.specs.Sealed.{tree}
+use Rattle.mlt_graph.specs.Show.{meant}
+use Rattle.mlt_graph.specs.declared.show.Show.{Show}
 use Rattle.mlt_host.specs.Host.{HostState}
-use Rattle.melt_run.specs.declared.show.Show.{Show}
 use Rattle.melt_run.specs.declared.prepared.Prepared.{Prepared}
 use Rattle.melt_run.specs.declared.prepared.Prepared.TheVariants.{Play, Text, Refused, Memory}
-use Rattle.melt_run.specs.declared.prepared.TextJob.{TextJob}
-use Rattle.melt_run.specs.declared.prepared.TextJob.TheVariants.{Version, Query}
-use Rattle.melt_run.specs.Show.{meant}
+use Rattle.melt_run.specs.Text.{job_of}
 
 -- what holds of the words' meaning, where the host tells the files that they name, if they name any
 abbrev pub Meant : List (List ℕ) → HostState → (Reading → Type 0) → Type 0
 Meant words host P = IfSome (reading_on words host.files) P
 
--- every source of a show is in the table
-abbrev pub Fits : List Pixel → Type 0
-Fits table = 0 < length table
-
--- a question as the definitions see it
-abbrev pub job_of : TextJob → meaning.TextJob
-job_of Version = meaning.Version
-job_of (Query asked) = meaning.Query asked
-
 abbrev pub Reads : Prepared → Reading → Type 0
-Reads (Play show table) reading = (reading ≡ meaning.Play (meant show table)) × Fits table
+Reads (Play show table) reading = (reading ≡ meaning.Play (meant show table)) × Fits table (tree show.sealed)
 Reads (Text job) reading = reading ≡ meaning.Print (job_of job)
 Reads (Refused refusal) reading = reading ≡ meaning.Refused refusal
 Reads Memory reading = Unit {0}
 
-abbrev pub IfPlay : Prepared → (Show → List Pixel → Type 0) → Type 0
+abbrev pub IfPlay : Prepared → (Show → List Source → Type 0) → Type 0
 IfPlay (Play show table) P = P show table
 IfPlay (Text job) P = Unit {0}
 IfPlay (Refused refusal) P = Unit {0}

@@ -1,16 +1,21 @@
-//! The bytes of a position.
+//! The bytes of a position's picture.
 
-ghost use Rattle.std.specs.Prelude.{◌≡◌, ◌≤◌, ◌<◌, ◌*◌, ◌+◌, ◌^◌, length};
+ghost use Rattle.std.specs.Prelude.{◌≡◌, ◌≤◌, ◌*◌, length, take};
+ghost use Rattle.std.specs.Option.{option_map, option_to_list};
 ghost use Rattle.mlt_tree.specs.Picture.{on_black, plain};
 ghost use Rattle.mlt_tree.specs.Show.{video_of, packed};
-ghost use Rattle.melt_run.specs.Pixels.{painted};
-ghost use Rattle.melt_run.specs.Prepared.{Fits};
-ghost use Rattle.melt_run.specs.Show.{meant, piece_of, pixel_size, pix_of};
-ghost use Rattle.melt_run.specs.Sources.{pixel};
+ghost use Rattle.mlt_tree.specs.Tree.{needs};
+ghost use Rattle.mlt_graph.specs.Piece.{piece_of, pixel_bytes};
+ghost use Rattle.mlt_graph.specs.Sealed.{tree};
+ghost use Rattle.mlt_graph.specs.Show.{meant, pix_of};
+ghost use Rattle.melt_build.specs.Sources.{pixel};
+ghost use Rattle.melt_run.specs.Pixels.{picture_bytes, seen_pixel};
 
-use crate::show::{Pix, Show};
-use crate::sources::{Colour, SourceTable};
-use mlt_base::Profile;
+use crate::tile::tile;
+use crate::walk::source_at;
+use melt_build::{Colour, SourceTable};
+use mlt_base::{Profile, SourceNo};
+use mlt_graph::{Pix, Show};
 
 /// The number of pixels of a frame.
 fn pixels(profile: &Profile) -> usize
@@ -20,15 +25,15 @@ fn pixels(profile: &Profile) -> usize
     profile.width as usize * profile.height as usize
 }
 
-/// The number of bytes of a frame.
-pub(crate) fn piece(show: &Show) -> usize
-    ensures value { result ≡ piece_of show.now }
-    ensures small { result ≤ 2 ^ 28 }
+/// The number of bytes of the picture of a frame, which stands first in the frame's buffer.
+pub(crate) fn picture_bytes(show: &Show) -> usize
+    ensures value { result ≡ picture_bytes show.now }
+    ensures within { result ≤ piece_of show.now.output show.now.profile }
 {
     let count = pixels(&show.profile);
     match show.output.pix {
-        Pix::Rgb => 3 * count,
-        Pix::Rgba => 4 * count,
+        Pix::Rgb => count * 3,
+        Pix::Rgba => count * 4,
     }
 }
 
@@ -39,55 +44,68 @@ fn over_black(channel: u8, alpha: u8) -> u8
     ((u32::from(channel) * u32::from(alpha) + 127) / 255) as u8
 }
 
-/// Gives every pixel of the frame these three bytes.
-fn paint(frame: &mut [u8], count: usize, r: u8, g: u8, b: u8)
-    requires { length frame.old ≡ 3 * count }
-    ensures { frame.new ≡ painted count r g b }
+/// Gives every pixel this colour, as it is written.
+fn paint(pix: Pix, bytes: &mut [u8], count: usize, colour: Colour)
+    requires { length bytes.old ≡ count * pixel_bytes pix }
+    ensures { bytes.new ≡ packed (pix_of pix) (plain count (pixel colour)) }
 {
-    for i in 0..count {
-        frame[3 * i] = r;
-        frame[3 * i + 1] = g;
-        frame[3 * i + 2] = b;
-    }
-}
-
-/// Gives every pixel of the frame this colour, four bytes each.
-fn fill(frame: &mut [u8], count: usize, colour: Colour)
-    requires { length frame.old ≡ 4 * count }
-    ensures { frame.new ≡ plain count (pixel colour) }
-{
-    for i in 0..count {
-        frame[4 * i] = colour.r;
-        frame[4 * i + 1] = colour.g;
-        frame[4 * i + 2] = colour.b;
-        frame[4 * i + 3] = colour.a;
-    }
-}
-
-/// A frame of one colour as it is written.
-fn paint_as(pix: Pix, frame: &mut [u8], count: usize, colour: Colour)
-    requires { length frame.old ≡ pixel_size pix * count }
-    ensures { frame.new ≡ packed (pix_of pix) (plain count (pixel colour)) }
-{
+    let Colour { r, g, b, a } = colour;
     match pix {
-        Pix::Rgb => {
-            let r = over_black(colour.r, colour.a);
-            let g = over_black(colour.g, colour.a);
-            let b = over_black(colour.b, colour.a);
-            paint(frame, count, r, g, b);
-        }
-        Pix::Rgba => fill(frame, count, colour),
+        Pix::Rgb => tile(
+            bytes,
+            &[over_black(r, a), over_black(g, a), over_black(b, a)],
+        ),
+        Pix::Rgba => tile(bytes, &[r, g, b, a]),
     }
 }
 
-/// Draws the picture of a position as it is written.
-pub(crate) fn draw(show: &Show, table: &SourceTable, at: u32, frame: &mut [u8])
-    requires fits { Fits table.now }
-    requires inside { at ≤ show.now.output.last.0 }
-    requires room { length frame.old ≡ piece_of show.now }
-    ensures { frame.new ≡ video_of (meant show.now table.now) at }
+/// The colour of the source that is seen, transparent black where there is none.
+fn colour_of(table: &SourceTable, source: Option<SourceNo>) -> Colour
+    ensures { pixel result ≡ seen_pixel table.now (option_map (λ s. s.0) source) }
 {
-    let _at = at;
+    let colour = match source {
+        Some(no) => table.colour(no),
+        None => None,
+    };
+    match colour {
+        Some(colour) => colour,
+        None => Colour {
+            r: 0,
+            g: 0,
+            b: 0,
+            a: 0,
+        },
+    }
+}
+
+/// How many sources are loaded for what is seen.
+fn loads_of(source: Option<SourceNo>) -> u64
+    ensures value { result ≡ length (option_to_list (option_map (λ s. s.0) source)) }
+    ensures most { result ≤ 1 }
+{
+    match source {
+        Some(_) => 1,
+        None => 0,
+    }
+}
+
+/// Draws the picture of a position, as it is written, into the first bytes of a frame's buffer, and
+/// answers how many sources it was made of.
+pub(crate) fn draw(show: &Show, table: &SourceTable, at: u32, buffer: &mut [u8]) -> u64
+    requires { length buffer.old ≡ piece_of show.now.output show.now.profile }
+    ensures picture { take (picture_bytes show.now) buffer.new ≡ video_of (meant show.now table.now) at }
+    ensures length { length buffer.new ≡ length buffer.old }
+    ensures loads { result ≡ length (needs (tree show.now.sealed) at) }
+    ensures most { result ≤ 1 }
+{
+    let source = source_at(&show.sealed, at);
+    let bytes = picture_bytes(show);
     let count = pixels(&show.profile);
-    paint_as(show.output.pix, frame, count, table.colour(0));
+    paint(
+        show.output.pix,
+        &mut buffer[..bytes],
+        count,
+        colour_of(table, source),
+    );
+    loads_of(source)
 }

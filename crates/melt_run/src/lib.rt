@@ -5,34 +5,24 @@
 //! and [`text`]; the relations that their clauses cite stand in `specs/`. Only the program stands above.
 #![tactic(auto)]
 
-mod built;
-mod clip;
-mod colours;
-mod composition;
 mod draw;
 pub mod gate;
 pub mod line;
 pub mod play;
 pub mod prepared;
-mod props;
 pub mod run;
-mod seal;
-mod service;
-pub mod show;
-pub mod sources;
-mod state;
 pub mod status;
 pub mod text;
+mod tile;
+mod walk;
 
 pub use gate::{Free, Gate};
 pub use mlt_tree::QueryKind;
 pub use play::play_serial;
-pub use prepared::{Prepared, TextJob, prepare};
+pub use prepared::{Prepared, prepare};
 pub use run::melt;
-pub use show::{Clip, Output, Pix, Show};
-pub use sources::{Colour, SourceTable};
 pub use status::{Status, Tally};
-pub use text::melt_text;
+pub use text::{TextJob, melt_text};
 
 #[cfg(test)]
 mod tests;

@@ -2,7 +2,7 @@
 
 ghost use Rattle.std.specs.Prelude.{◌≡◌, ◌≤◌, ◌<◌, ◌+◌, ◌++◌, [], length, take, drop, codes, decimal};
 ghost use Rattle.std.specs.Fmt.{signed_decimal};
-ghost use Rattle.mlt_tree.specs.declared.refusal.Cause.TheVariants.{OutOfRange, BadRange, TooMany, TooLong, TooLarge};
+ghost use Rattle.mlt_tree.specs.declared.refusal.Cause.TheVariants.{OutOfRange, TooFew, BadClip, BadSplit, BadRange, TooMany, TooLong, TooDeep, TooLarge};
 ghost use Rattle.mlt_tree.specs.Lines.{cause_text, inner_text, port_text, refusal_line, sink_line, memory_line};
 ghost use Rattle.melt_run.specs.Status.{line_of};
 
@@ -107,6 +107,39 @@ impl Line {
         self.signed(high);
     }
 
+    fn too_few(&mut self, asked: u32, there: u32)
+        requires { length self.old + 80 ≤ 256 }
+        ensures text { self.new ≡ self.old ++ cause_text (TooFew asked there) }
+        ensures short { length self.new ≤ length self.old + 80 }
+    {
+        self.count(asked);
+        self.text(b" wanted, ");
+        self.count(there);
+        self.text(b" there");
+    }
+
+    fn bad_clip(&mut self, index: u32, count: u32)
+        requires { length self.old + 80 ≤ 256 }
+        ensures text { self.new ≡ self.old ++ cause_text (BadClip index count) }
+        ensures short { length self.new ≤ length self.old + 80 }
+    {
+        self.text(b"no clip at ");
+        self.count(index);
+        self.text(b" of ");
+        self.count(count);
+    }
+
+    fn bad_split(&mut self, at: i64, frames: u32)
+        requires { length self.old + 80 ≤ 256 }
+        ensures text { self.new ≡ self.old ++ cause_text (BadSplit at frames) }
+        ensures short { length self.new ≤ length self.old + 80 }
+    {
+        self.text(b"cannot split ");
+        self.count(frames);
+        self.text(b" frames at ");
+        self.signed(at);
+    }
+
     fn bad_range(&mut self, first: u32, last: u32, frames: u32)
         requires { length self.old + 80 ≤ 256 }
         ensures text { self.new ≡ self.old ++ cause_text (BadRange first last frames) }
@@ -138,6 +171,16 @@ impl Line {
         self.text(b" frames are too many");
     }
 
+    fn too_deep(&mut self, depth: u32)
+        requires { length self.old + 80 ≤ 256 }
+        ensures text { self.new ≡ self.old ++ cause_text (TooDeep depth) }
+        ensures short { length self.new ≤ length self.old + 80 }
+    {
+        self.text(b"nested ");
+        self.count(depth);
+        self.text(b" deep");
+    }
+
     fn too_large(&mut self, bytes: u64)
         requires { length self.old + 80 ≤ 256 }
         ensures text { self.new ≡ self.old ++ cause_text (TooLarge bytes) }
@@ -162,6 +205,9 @@ impl Line {
             Cause::BadValue => self.text(b"bad value"),
             Cause::BadNumber(_) => self.text(b"bad number"),
             Cause::OutOfRange { value, low, high } => self.out_of_range(value, low, high),
+            Cause::TooFew { asked, there } => self.too_few(asked, there),
+            Cause::BadClip { index, count } => self.bad_clip(index, count),
+            Cause::BadSplit { at, frames } => self.bad_split(at, frames),
             Cause::BadRange {
                 first,
                 last,
@@ -170,6 +216,7 @@ impl Line {
             Cause::NoProducer => self.text(b"nothing to play"),
             Cause::TooMany { limit } => self.too_many(limit),
             Cause::TooLong { frames } => self.too_long(frames),
+            Cause::TooDeep { depth } => self.too_deep(depth),
             Cause::TooLarge { bytes } => self.too_large(bytes),
         }
     }

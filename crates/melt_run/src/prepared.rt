@@ -1,32 +1,36 @@
 //! From words to what is played or printed.
 
-ghost use Rattle.std.specs.Prelude.{◌≡◌, IfOk, None, Option, length, find};
-ghost use Rattle.std.specs.Option.{option_map, option_copied};
+ghost use Rattle.std.specs.Prelude.{◌≡◌, All, None, Option, find};
+ghost use Rattle.std.specs.Option.{option_copied};
 ghost use Rattle.std.specs.List.{list_any};
 ghost use Rattle.mlt_host.specs.Host.{OnlyLoads};
+ghost use Rattle.mlt_tree.specs.GroupWords.{IsAllowed, words_in};
 ghost use Rattle.mlt_tree.specs.Reading as meaning;
 ghost use Rattle.mlt_tree.specs.Refusing.{over, refusal_at as refusal_of};
+ghost use Rattle.mlt_tree.specs.Sealing.{show_of};
+ghost use Rattle.mlt_tree.specs.Sources.{Fits};
 ghost use Rattle.melt_run.specs.Show.{texts};
-ghost use Rattle.melt_run.specs.State.{Takes};
-ghost use Rattle.melt_run.specs.Prepared.{Meant, Reads, Fits, IfPlay, AsksForWords};
+ghost use Rattle.mlt_graph.specs.Sealed.{tree};
+ghost use Rattle.melt_run.specs.Prepared.{Meant, Reads, IfPlay, AsksForWords};
 
-use crate::composition::show;
-use crate::props::refusal_at;
-use crate::show::Show;
-use crate::sources::SourceTable;
+use crate::text::TextJob;
+use melt_build::{BuildFault, SourceTable, build};
 use melt_words::groups;
 use mlt_base::{Try, WordCause, WordFault};
+use mlt_graph::Show;
 use mlt_host::Host;
-use mlt_tree::{Cause, Group, GroupKind, QueryKind, Refusal};
+use mlt_tree::{Cause, Group, GroupKind, GroupList, QueryKind, Refusal};
 use std::alloc::Global;
 
-/// A question that is answered on the text.
-#[derive(Clone, Copy, Debug, PartialEq, Eq)]
-pub enum TextJob {
-    /// The name and the version of the program.
-    Version,
-    /// A list of names.
-    Query(QueryKind),
+/// The refusal of a word for this cause.
+fn refusal_at(place: u32, cause: Cause) -> Refusal
+    ensures { result ≡ refusal_of place cause }
+{
+    Refusal {
+        word: place,
+        inner: None,
+        cause,
+    }
 }
 
 /// What the words ask for.
@@ -166,13 +170,17 @@ fn later_job(groups: &[Group]) -> Option<&Group>
     }
 }
 
-fn play(alloc: Global, count: u32, groups: &[Group]) -> Prepared
-    ensures { Reads result (meaning.show_read (meaning.show_of count groups.now)) }
+/// The show that the groups mean.
+fn play<H: Host>(alloc: Global, groups: &GroupList, host: &mut H) -> Prepared
+    requires { All IsAllowed groups.now }
+    ensures reads { Reads result (meaning.show_read (show_of (words_in groups.now) groups.now)) }
+    ensures asked { (H.state host.new).asked ≡ (H.state host.old).asked }
+    ensures rest { OnlyLoads (H.state host.old) (H.state host.new) }
 {
-    match show(alloc, count, groups) {
+    match build(alloc, groups, host) {
         Ok((show, table)) => Prepared::Play(show, table),
-        Err(Try::Fault(refusal)) => Prepared::Refused(refusal),
-        Err(Try::Memory) => Prepared::Memory,
+        Err(BuildFault::Refused(refusal)) => Prepared::Refused(refusal),
+        Err(BuildFault::Memory) => Prepared::Memory,
     }
 }
 
@@ -189,18 +197,22 @@ fn has_query(groups: &[Group]) -> bool
 }
 
 /// The first of the jobs that the groups have, else to play.
-fn job(alloc: Global, count: u32, groups: &[Group]) -> Prepared
-    ensures { Reads result (meaning.job_of count groups.now) }
+fn job<H: Host>(alloc: Global, groups: &GroupList, host: &mut H) -> Prepared
+    requires { All IsAllowed groups.now }
+    ensures reads { Reads result (meaning.job_of (words_in groups.now) groups.now) }
+    ensures asked { (H.state host.new).asked ≡ (H.state host.old).asked }
+    ensures rest { OnlyLoads (H.state host.old) (H.state host.new) }
 {
-    if has_version(groups) {
+    let list = groups.as_slice();
+    if has_version(list) {
         return Prepared::Text(TextJob::Version);
     }
-    if has_query(groups) {
-        return query(groups);
+    if has_query(list) {
+        return query(list);
     }
-    match later_job(groups) {
+    match later_job(list) {
         Some(group) => Prepared::Refused(refusal_at(group.place, Cause::Unsupported)),
-        None => play(alloc, count, groups),
+        None => play(alloc, groups, host),
     }
 }
 
@@ -224,11 +236,13 @@ fn word_refusal(fault: WordFault) -> Refusal
 }
 
 /// What the words mean.
-fn read(alloc: Global, words: &[String]) -> Prepared
-    ensures { Reads result (meaning.reading (texts words.now) meaning.no_files) }
+fn read<H: Host>(alloc: Global, words: &[String], host: &mut H) -> Prepared
+    ensures reads { Reads result (meaning.reading (texts words.now) meaning.no_files) }
+    ensures asked { (H.state host.new).asked ≡ (H.state host.old).asked }
+    ensures rest { OnlyLoads (H.state host.old) (H.state host.new) }
 {
     match groups(alloc, words) {
-        Ok(list) => job(alloc, words.len() as u32, list.as_slice()),
+        Ok(list) => job(alloc, &list, host),
         Err(Try::Fault(fault)) => Prepared::Refused(word_refusal(fault)),
         Err(Try::Memory) => Prepared::Memory,
     }
@@ -239,9 +253,9 @@ fn read(alloc: Global, words: &[String]) -> Prepared
 /// It creates and appends nothing. `Refused` is the words' refusal, and `Memory` is want of memory.
 pub fn prepare<H: Host>(alloc: Global, words: &[String], host: &mut H) -> Prepared
     ensures reads { Meant (texts words.now) (H.state host.old) (Reads result) }
-    ensures fits { IfPlay result (λ _ table. Fits table) }
+    ensures fits { IfPlay result (λ show table. Fits table (tree show.sealed)) }
     ensures asked { AsksForWords result (texts words.now) (H.state host.old) (H.state host.new) }
     ensures rest { OnlyLoads (H.state host.old) (H.state host.new) }
 {
-    read(alloc, words)
+    read(alloc, words, host)
 }

@@ -7,9 +7,12 @@ ghost use Rattle.mlt_host.specs.Host.{OnlyPort};
 ghost use Rattle.mlt_tree.specs.declared.refusal.Refusal.{Refusal};
 ghost use Rattle.mlt_tree.specs.Reading as meaning;
 ghost use Rattle.mlt_tree.specs.Reading.{written};
-ghost use Rattle.melt_run.specs.Show.{texts, meant};
+ghost use Rattle.mlt_tree.specs.Sources.{Fits};
+ghost use Rattle.mlt_graph.specs.Sealed.{tree};
+ghost use Rattle.mlt_graph.specs.Show.{meant};
+ghost use Rattle.melt_run.specs.Show.{texts};
 ghost use Rattle.melt_run.specs.Status.{line_of, IfDone, IfRefused, IfSinkFault, IfMemory};
-ghost use Rattle.melt_run.specs.Prepared.{Meant, Fits, loads_on};
+ghost use Rattle.melt_run.specs.Prepared.{Meant, loads_on};
 ghost use Rattle.melt_run.specs.Outcome.{IsWritten, IsWholeTally, FailsAt, Leaves, Tells, AsksFor, Keeps, MeetsNoFault, IsDoneOrMemory, IsAccepted, CreatesNothing, Says};
 ghost use Rattle.melt_run.specs.Ends.{Ends, EndsShow};
 
@@ -17,11 +20,11 @@ use crate::gate::Gate;
 use crate::line::fault_line;
 use crate::play::play_serial;
 use crate::prepared::{Prepared, prepare};
-use crate::show::Show;
-use crate::sources::SourceTable;
 use crate::status::Status;
 use crate::text::melt_text;
+use melt_build::SourceTable;
 use mlt_base::Port;
+use mlt_graph::Show;
 use mlt_host::Host;
 use std::alloc::Global;
 
@@ -50,7 +53,7 @@ fn told<H: Host>(host: &mut H, status: Status) -> Status
 
 /// Plays the show, and tells where it was not played whole.
 fn played<H: Host>(alloc: Global, show: Show, table: SourceTable, host: &mut H) -> Status
-    requires { Fits table }
+    requires { Fits table (tree show.sealed) }
     ensures ends { EndsShow (meant show table) result (H.state host.old) (H.state host.new) }
     ensures nothing { IfMemory result (CreatesNothing (H.state host.old) (H.state host.new)) }
     ensures asked { (H.state host.new).asked ≡ (H.state host.old).asked }

@@ -2,6 +2,7 @@
 
 ghost use Rattle.std.specs.Prelude.{◌≡◌};
 ghost use Rattle.melt_run.specs.Status.{code_of};
+ghost use Rattle.melt_run.specs.Play.{no_tally};
 
 use mlt_base::Port;
 use mlt_tree::Refusal;
@@ -15,6 +16,21 @@ pub struct Tally {
     pub handed: u64,
     pub taken: u64,
     pub destroyed: u64,
+}
+
+impl Tally {
+    /// The accounts of a run that has done nothing.
+    pub fn nothing() -> Tally
+        ensures { result ≡ no_tally }
+    {
+        Tally {
+            frames: 0,
+            loads: 0,
+            handed: 0,
+            taken: 0,
+            destroyed: 0,
+        }
+    }
 }
 
 /// How a run ended.

@@ -17,9 +17,13 @@ const RED_TWICE: [&str; 6] = [
 ];
 
 const fn tally(frames: u64) -> Tally {
+    tally_with(frames, frames)
+}
+
+const fn tally_with(frames: u64, loads: u64) -> Tally {
     Tally {
         frames,
-        loads: frames,
+        loads,
         handed: frames,
         taken: frames,
         destroyed: 0,
@@ -54,7 +58,7 @@ fn owned(alloc: Global, texts: &[&str]) -> Result<Vec<String>, AllocError> {
 fn plays_prints_and_refuses(rt: HostRuntime) -> Result<(), Fail> {
     let alloc = rt.alloc();
     // The words, how they end, what Video has, and what a person reads.
-    let rows: [(&str, Status, &[u8], &str); 18] = [
+    let rows: [(&str, Status, &[u8], &str); 29] = [
         (
             "-profile 1x1@25/1 -consumer raw:v colour:red out=1",
             Status::Done(tally(2)),
@@ -160,6 +164,78 @@ fn plays_prints_and_refuses(rt: HostRuntime) -> Result<(), Fail> {
             "melt: word 8: bad number\n",
         ),
         (
+            "-profile 1x1@25/1 -consumer raw:v colour:red out=0 -blank 1 colour:blue out=0",
+            Status::Done(tally_with(4, 2)),
+            &[255, 0, 0, 0, 0, 0, 0, 0, 0, 0, 0, 255],
+            "",
+        ),
+        (
+            "-profile 1x1@25/1 -consumer raw:v colour:red out=4 -split 0 -remove",
+            Status::Done(tally(1)),
+            &[255, 0, 0],
+            "",
+        ),
+        (
+            "-profile 1x1@25/1 -consumer raw:v colour:red out=4 -split 4",
+            refusal(6, Cause::BadSplit { at: 4, frames: 5 }),
+            &[],
+            "melt: word 6: cannot split 5 frames at 4\n",
+        ),
+        (
+            "-profile 1x1@25/1 -consumer raw:v colour:red out=4 -split -1 -split 0",
+            refusal(8, Cause::BadSplit { at: 0, frames: 1 }),
+            &[],
+            "melt: word 8: cannot split 1 frames at 0\n",
+        ),
+        (
+            "-profile 1x1@25/1 -consumer raw:v colour:red out=4 -split -9223372036854775808",
+            refusal(
+                6,
+                Cause::BadSplit {
+                    at: -9223372036854775808,
+                    frames: 5,
+                },
+            ),
+            &[],
+            "melt: word 6: cannot split 5 frames at -9223372036854775808\n",
+        ),
+        (
+            "-profile 1x1@25/1 -consumer raw:v -group out=0 colour:red colour:blue",
+            Status::Done(tally(2)),
+            &[255, 0, 0, 0, 0, 255],
+            "",
+        ),
+        (
+            "-profile 1x1@25/1 -consumer raw:v colour:red out=0 colour:blue out=0 -join 2 -repeat 2",
+            Status::Done(tally(4)),
+            &[255, 0, 0, 0, 0, 255, 255, 0, 0, 0, 0, 255],
+            "",
+        ),
+        (
+            "-profile 1x1@25/1 -consumer raw:v colour:red out=0 colour:blue out=0 -swap",
+            Status::Done(tally(2)),
+            &[0, 0, 255, 255, 0, 0],
+            "",
+        ),
+        (
+            "-profile 1x1@25/1 -consumer raw:v -remove",
+            refusal(4, Cause::TooFew { asked: 1, there: 0 }),
+            &[],
+            "melt: word 4: 1 wanted, 0 there\n",
+        ),
+        (
+            "-profile 1x1@25/1 -consumer raw:v colour:red out=0 -repeat 100000 colour:blue out=0",
+            refusal(8, Cause::TooMany { limit: 100000 }),
+            &[],
+            "melt: word 8: more than 100000\n",
+        ),
+        (
+            "-profile 1x1@25/1 -consumer raw:v colour:red out=2147483646 -blank 0",
+            refusal(6, Cause::TooLong { frames: 2147483648 }),
+            &[],
+            "melt: word 6: 2147483648 frames are too many\n",
+        ),
+        (
             "-query profiles -query filters",
             refusal(2, Cause::TooMany { limit: 1 }),
             &[],
@@ -186,6 +262,51 @@ fn plays_prints_and_refuses(rt: HostRuntime) -> Result<(), Fail> {
         assert_eq!(rt; host.bytes_of(Port::Video), video);
         assert_eq!(rt; host.bytes_of(Port::Text), text.as_bytes());
     }
+    Ok(())
+}
+
+/// A clip that is joined so many times.
+fn nested(alloc: Global, joins: u32) -> Result<Vec<String>, AllocError> {
+    let mut words = split(alloc, "-profile 1x1@25/1 -consumer raw:v colour:red out=0")?;
+    for _ in 0..joins {
+        words.push(String::from_str(alloc, "-join")?)?;
+        words.push(String::from_str(alloc, "1")?)?;
+    }
+    Ok(words)
+}
+
+#[test]
+fn nests_units_sixteen_deep(rt: HostRuntime) -> Result<(), Fail> {
+    let alloc = rt.alloc();
+    let deepest = nested(alloc, 15)?;
+    let mut host = MemHost::new(alloc);
+    let answer = melt(&(), alloc, deepest.as_slice(), &mut host, &Free);
+    assert_eq!(rt; answer, Status::Done(tally(1)));
+    assert_eq!(rt; host.bytes_of(Port::Video), [255, 0, 0].as_slice());
+    let too_deep = nested(alloc, 16)?;
+    let answer = melt(&(), alloc, too_deep.as_slice(), &mut host, &Free);
+    assert_eq!(rt; answer, refusal(38, Cause::TooDeep { depth: 17 }));
+    Ok(())
+}
+
+#[test]
+fn plays_the_end_of_nine_thousand_clips(rt: HostRuntime) -> Result<(), Fail> {
+    let alloc = rt.alloc();
+    let mut words = split(
+        alloc,
+        "-profile 1x1@25/1 -consumer raw:v in=134999999 out=135000000",
+    )?;
+    for _ in 0..9000 {
+        words.push(String::from_str(alloc, "colour:red")?)?;
+    }
+    words.push(String::from_str(alloc, "colour:blue")?)?;
+    let mut host = MemHost::new(alloc);
+    let answer = melt(&(), alloc, words.as_slice(), &mut host, &Free);
+    assert_eq!(rt; answer, Status::Done(tally(2)));
+    assert_eq!(rt;
+        host.bytes_of(Port::Video),
+        [255, 0, 0, 0, 0, 255].as_slice()
+    );
     Ok(())
 }
 

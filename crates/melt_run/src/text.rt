@@ -4,14 +4,22 @@ ghost use Rattle.std.specs.Prelude.{◌≡◌, ◌≤◌};
 ghost use Rattle.mlt_base.specs.declared.port.Port.TheVariants.{Text};
 ghost use Rattle.mlt_host.specs.Host.{OnlyPort};
 ghost use Rattle.mlt_tree.specs.Reading as meaning;
-ghost use Rattle.melt_run.specs.Prepared.{job_of};
 ghost use Rattle.melt_run.specs.Prints.{Prints};
+ghost use Rattle.melt_run.specs.Text.{job_of};
 
-use crate::prepared::TextJob;
 use crate::status::{Status, Tally};
 use mlt_base::Port;
 use mlt_host::Host;
 use mlt_tree::QueryKind;
+
+/// A question that is answered on the text.
+#[derive(Clone, Copy, Debug, PartialEq, Eq)]
+pub enum TextJob {
+    /// The name and the version of the program.
+    Version,
+    /// A list of names.
+    Query(QueryKind),
+}
 
 /// The names that are asked for, each with a line end.
 fn names(asked: QueryKind) -> &'static str
@@ -46,15 +54,8 @@ pub fn melt_text<H: Host>(job: TextJob, host: &mut H) -> Status
     ensures never_falls { (H.state host.old).faults Text ≤ (H.state host.new).faults Text }
     ensures rest { OnlyPort Text (H.state host.old) (H.state host.new) }
 {
-    let tally = Tally {
-        frames: 0,
-        loads: 0,
-        handed: 0,
-        taken: 0,
-        destroyed: 0,
-    };
     match host.append(Port::Text, answer(job).as_bytes()) {
-        Ok(()) => Status::Done(tally),
-        Err(_) => Status::SinkFault(Port::Text, tally),
+        Ok(()) => Status::Done(Tally::nothing()),
+        Err(_) => Status::SinkFault(Port::Text, Tally::nothing()),
     }
 }

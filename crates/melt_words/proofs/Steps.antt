@@ -8,7 +8,8 @@ use Rattle.mlt_base.specs.declared.refusal.Try.{Try}
 use Rattle.mlt_base.specs.declared.refusal.Try.TheVariants.{Fault, Memory}
 use Rattle.mlt_base.specs.declared.faults.WordFault.{WordFault}
 use Rattle.mlt_tree.specs.declared.group.TheConstants.{MOST_WORDS}
-use Rattle.mlt_tree.specs.Words.{State, start, step, steps, finish, groups, ◌>>=◌}
+use Rattle.mlt_base.specs.Steps.{◌>>=◌}
+use Rattle.mlt_tree.specs.Words.{State, start, step, steps, finish, groups}
 
 -- the words from an index on, the first of them apart
 left_at : {X : Type 0} → (text : X → List ℕ) (words : List X) (i : ℕ) (word : X) → i < length words → word ≡ get_or words i word → drop i (map text words) ≡ text word ∷ drop (i + 1) (map text words)

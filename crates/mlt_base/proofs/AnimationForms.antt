@@ -6,7 +6,8 @@ use Rattle.std.proofs.lemmas.Bool.{eqb-true, ne_eqb, or_right}
 use Rattle.std.proofs.lemmas.List.Splits.{join_with_byte-slice_split}
 use Rattle.mlt_base.specs.declared.fault.NumFault.TheVariants.{BadDigit, Order, Smooth}
 use Rattle.mlt_base.specs.declared.animation.Key.{Key}
-use Rattle.mlt_base.specs.Reading.{◌>>=◌, held, digit_count, number, digits_at, below}
+use Rattle.mlt_base.specs.Reading.{held, digit_count, number, digits_at, below}
+use Rattle.mlt_base.specs.Steps.{◌>>=◌}
 use Rattle.mlt_base.specs.Decimal.{decimal}
 use Rattle.mlt_base.specs.Animation.{is_behind, Rises, key_mark, in_order, key_at, is_skipped, keys_of, is_semicolon, constant, animation}
 use Rattle.mlt_base.specs.Grammar.{IsDecimal, sign_text, IsKey, AreKeys, IsAnimation, AreHeld}

@@ -6,7 +6,8 @@ use Rattle.std.proofs.Math.Seq.{take-length}
 use Rattle.std.proofs.lemmas.List.{take_at, drop_at, take-append-drop, length-take-le}
 use Rattle.mlt_base.specs.declared.fault.NumFault.{NumFault}
 use Rattle.mlt_base.specs.declared.fault.NumFault.TheVariants.{BadDigit, TooLarge}
-use Rattle.mlt_base.specs.Reading.{◌>>=◌, held, AreDigits, IsNumeral, digit_count, digits_at, mark_at, end_at, below}
+use Rattle.mlt_base.specs.Reading.{held, AreDigits, IsNumeral, digit_count, digits_at, mark_at, end_at, below}
+use Rattle.mlt_base.specs.Steps.{◌>>=◌}
 
 -- the value of a step that did not fail
 pub bind_ok : {A B : Type 0} (r : Result A NumFault) (f : A → Result B NumFault) (y : B) → (r >>= f) ≡ Ok y → (x : A) × (r ≡ Ok x) × (f x ≡ Ok y)

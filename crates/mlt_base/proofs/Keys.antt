@@ -8,7 +8,7 @@ use Rattle.mlt_base.specs.declared.fault.NumFault.{NumFault}
 use Rattle.mlt_base.specs.declared.refusal.Try.{Try}
 use Rattle.mlt_base.specs.declared.refusal.Try.TheVariants.{Fault, Memory}
 use Rattle.mlt_base.specs.declared.animation.Key.{Key}
-use Rattle.mlt_base.specs.Reading.{◌>>=◌}
+use Rattle.mlt_base.specs.Steps.{◌>>=◌}
 use Rattle.mlt_base.specs.Try.{Fails}
 use Rattle.mlt_base.specs.Animation.{key_at, keys_of, is_skipped, is_semicolon, first_key}
 

@@ -6,7 +6,8 @@ use Rattle.mlt_base.specs.declared.fault.NumFault.{NumFault}
 use Rattle.mlt_base.specs.declared.fault.NumFault.TheVariants.{Order}
 use Rattle.mlt_base.specs.declared.refusal.Try.{Try}
 use Rattle.mlt_base.specs.declared.animation.Key.{Key}
-use Rattle.mlt_base.specs.Reading.{◌>>=◌, held, number, digits_at, below}
+use Rattle.mlt_base.specs.Reading.{held, number, digits_at, below}
+use Rattle.mlt_base.specs.Steps.{◌>>=◌}
 use Rattle.mlt_base.specs.Try.{TryGives}
 use Rattle.mlt_base.specs.Decimal.{decimal}
 use Rattle.mlt_base.specs.Animation.{is_behind, Rises, key_mark, in_order, key_at, keys_of, is_skipped, is_semicolon, constant, animation}

@@ -4,7 +4,8 @@ use Rattle.std.proofs.lemmas.Bool.{eqb-true, ltb-false, le-ltb}
 use Rattle.std.proofs.lemmas.List.{append-nil, length-append}
 use Rattle.mlt_base.specs.declared.fault.NumFault.{NumFault}
 use Rattle.mlt_base.specs.declared.fault.NumFault.TheVariants.{BadDigit, TooLarge}
-use Rattle.mlt_base.specs.Reading.{◌>>=◌, held, IsNumeral, digit_count, digits_at, mark_at, end_at, below}
+use Rattle.mlt_base.specs.Reading.{held, IsNumeral, digit_count, digits_at, mark_at, end_at, below}
+use Rattle.mlt_base.specs.Steps.{◌>>=◌}
 use Rattle.mlt_base.specs.Time.{Form, Frames, Clock, Counted, frames_of, last_digits, fraction_digits, behind_seconds, behind_hours, behind_first, form_of, time}
 use Rattle.mlt_base.specs.Grammar.{clock_text, IsClock, IsTime}
 use Rattle.mlt_base.proofs.Below.{below_ok, below_err}

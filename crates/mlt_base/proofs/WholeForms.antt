@@ -5,7 +5,8 @@ use Rattle.std.specs.Int.{w64}
 use Rattle.std.proofs.lemmas.Bool.{cases_lt, eqb-true, ne_eqb, ltb-true, leb-true, lt-ltb, le-ltb, le-leb, lt-leb}
 use Rattle.std.proofs.lemmas.List.{append-nil}
 use Rattle.mlt_base.specs.declared.fault.NumFault.TheVariants.{TooLarge}
-use Rattle.mlt_base.specs.Reading.{◌>>=◌, IsNumeral, number, digits_at, end_at}
+use Rattle.mlt_base.specs.Reading.{IsNumeral, number, digits_at, end_at}
+use Rattle.mlt_base.specs.Steps.{◌>>=◌}
 use Rattle.mlt_base.specs.Whole.{digits_to_end, positive, negative, whole}
 use Rattle.mlt_base.specs.Grammar.{IsWhole, whole_text, whole_value}
 use Rattle.mlt_base.proofs.Forms.{bind_ok, ok_is, digits_at-takes, digits_at-again, end_at-takes}

@@ -4,7 +4,8 @@ use Rattle.std.specs.List.{slice_split, list_any, before_first, after_first}
 use Rattle.mlt_base.specs.declared.fault.NumFault.{NumFault}
 use Rattle.mlt_base.specs.declared.fault.NumFault.TheVariants.{BadDigit, Order, Smooth}
 use Rattle.mlt_base.specs.declared.animation.Key.{Key}
-use Rattle.mlt_base.specs.Reading.{◌>>=◌, held, number, digits_at, below}
+use Rattle.mlt_base.specs.Reading.{held, number, digits_at, below}
+use Rattle.mlt_base.specs.Steps.{◌>>=◌}
 use Rattle.mlt_base.specs.Decimal.{decimal}
 
 -- ---- what an animation is at a frame

@@ -2,7 +2,8 @@
 use Rattle.std.specs.Prelude.{ℕ, ◌+◌, ◌*◌, ◌/◌, ◌^◌, List, [], ◌∷◌, ◌++◌, length, take, drop, Result, Ok, Err, nat_lt, ◌==◌, ◌||◌, if◌then◌else◌}
 use Rattle.mlt_base.specs.declared.fault.NumFault.{NumFault}
 use Rattle.mlt_base.specs.declared.fault.NumFault.TheVariants.{Empty, BadDigit}
-use Rattle.mlt_base.specs.Reading.{◌>>=◌, held, digit_count, number, below}
+use Rattle.mlt_base.specs.Reading.{held, digit_count, number, below}
+use Rattle.mlt_base.specs.Steps.{◌>>=◌}
 
 -- behind a `.`, digits to the end; on one of its two sides there is a digit
 unfoldable pub fraction_at : ℕ → List ℕ → List ℕ → Result (List ℕ × List ℕ) NumFault

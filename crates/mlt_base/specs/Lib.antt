@@ -13,3 +13,5 @@ pub mod Profile
 pub mod ProfileView
 pub mod Grammar
 pub mod Samples
+pub mod Span
+pub mod Steps

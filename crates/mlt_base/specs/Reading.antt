@@ -4,12 +4,6 @@ use Rattle.std.specs.Char.{is_ascii_digit}
 use Rattle.mlt_base.specs.declared.fault.NumFault.{NumFault}
 use Rattle.mlt_base.specs.declared.fault.NumFault.TheVariants.{BadDigit, TooLarge}
 
--- a step that passes its fault on
-infixl 10 ◌>>=◌
-abbrev pub ◌>>=◌ : {A B : Type 0} → Result A NumFault → (A → Result B NumFault) → Result B NumFault
-(Ok x) >>= f = f x
-(Err e) >>= f = Err e
-
 -- what a reader returned, seen by view, is what reading gives
 abbrev pub Gives : {X Y : Type 0} → (X → Y) → Result X NumFault → Result Y NumFault → Type 0
 Gives view (Ok x) read = read ≡ Ok (view x)

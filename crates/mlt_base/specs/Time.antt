@@ -3,7 +3,8 @@ use Rattle.std.specs.Prelude.{ℕ, ◌+◌, ◌-◌, ◌*◌, ◌/◌, ◌^◌, 
 use Rattle.std.specs.Int.{div_ceil}
 use Rattle.mlt_base.specs.declared.fault.NumFault.{NumFault}
 use Rattle.mlt_base.specs.declared.fault.NumFault.TheVariants.{Empty, BadDigit}
-use Rattle.mlt_base.specs.Reading.{◌>>=◌, held, number, digits_at, mark_at, end_at, below}
+use Rattle.mlt_base.specs.Reading.{held, number, digits_at, mark_at, end_at, below}
+use Rattle.mlt_base.specs.Steps.{◌>>=◌}
 
 -- the digits of each field: n; H:M:S or H:M:S.f, where the fraction may be empty; H:M:S:F
 pub data Form : Type 0 where

@@ -2,7 +2,8 @@
 use Rattle.std.specs.Prelude.{ℕ, ◌^◌, ℤ, pos, neg_ℤ, List, [], ◌∷◌, Result, Ok, Err, nat_lt, nat_le, ◌==◌, if◌then◌else◌}
 use Rattle.mlt_base.specs.declared.fault.NumFault.{NumFault}
 use Rattle.mlt_base.specs.declared.fault.NumFault.TheVariants.{Empty, TooLarge}
-use Rattle.mlt_base.specs.Reading.{◌>>=◌, number, digits_at, end_at}
+use Rattle.mlt_base.specs.Reading.{number, digits_at, end_at}
+use Rattle.mlt_base.specs.Steps.{◌>>=◌}
 
 -- one or more digits, and nothing behind them
 unfoldable pub digits_to_end : ℕ → List ℕ → Result (List ℕ) NumFault

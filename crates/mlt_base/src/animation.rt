@@ -11,7 +11,7 @@ use crate::fault::NumFault;
 use crate::reading::{digits_at, held, length_before, number};
 use crate::refusal::Try;
 use crate::value::Q16;
-use std::alloc::Global;
+use std::alloc::{AllocError, Global};
 use std::marker::Model;
 
 /// The value of an animation at a frame.
@@ -242,5 +242,16 @@ impl Animation {
             return self.first.value;
         }
         Q16(value_from(self.first, &self.rest, p))
+    }
+
+    /// A copy, with its own memory.
+    pub fn copy(&self) -> Result<Animation, AllocError>
+        ensures { IfOk result (λ keys. keys ≡ self.now) }
+    {
+        let rest = Vec::from_slice(*self.rest.allocator(), self.rest.as_slice())?;
+        Ok(Animation {
+            first: self.first,
+            rest,
+        })
     }
 }

@@ -28,7 +28,7 @@ pub mod whole;
 pub use animation::{Animation, Key};
 pub use decimal::read_decimal;
 pub use fault::NumFault;
-pub use faults::{WordCause, WordFault};
+pub use faults::{PlayFault, WordCause, WordFault};
 pub use geometry::Geometry;
 pub use port::Port;
 pub use profile::{Pos, Profile, Rate, SourceNo};

@@ -1,6 +1,6 @@
 //! Small values: fractions, spans, the numbers of units, and a counter of steps.
 
-ghost use Rattle.std.specs.Prelude.{◌≡◌, ℕ, ◌+◌, ◌^◌, ◌<◌, ◌≤◌};
+ghost use Rattle.std.specs.Prelude.{◌≡◌, ℕ, ◌+◌, ◌^◌, ◌<◌};
 
 use crate::profile::Pos;
 use std::marker::Model;
@@ -13,12 +13,12 @@ pub struct Q16(pub u32);
 #[derive(Clone, Copy, Debug, PartialEq, Eq, PartialOrd, Ord)]
 pub struct UnitId(pub u32);
 
-/// Frames from the first to the last, both of which belong to it.
-#[derive(Clone, Copy, Debug)]
+/// Frames from the first to the last, both of which belong to it. First is at most last in every span
+/// that a value holds, and each call that is handed one asks for it (`IsSpan` in `specs/Span`).
+#[derive(Clone, Copy, Debug, PartialEq, Eq)]
 pub struct Span {
     pub first: Pos,
     pub last: Pos,
-    pub ghost ordered: { first.0 ≤ last.0 },
 }
 
 /// A counter of steps, seen as how many were counted.

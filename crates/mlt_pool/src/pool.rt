@@ -1,10 +1,10 @@
 //! The pool: the blocks of all classes, and the calls that lend them and bring them home.
 
-ghost use Rattle.std.specs.Prelude.{◌≡◌, ◌+◌, ◌^◌, ◌<◌, ◌≤◌, length, IfSome, IfNone, OnSome, OnOk, OnErr};
+ghost use Rattle.std.specs.Prelude.{◌≡◌, ◌⊎◌, ◌+◌, ◌^◌, ◌<◌, ◌≤◌, length, IfSome, IfNone, OnSome, OnOk, OnErr};
 ghost use Rattle.mlt_pool.specs.Class.{class_of};
 ghost use Rattle.mlt_pool.specs.Counts.{Counts, home_of, lent_of, all_lent, no_blocks, added, lent_out, brought, IsOneLent, IsAdded};
 
-use crate::class::{self, LEAST};
+use crate::class::{self, GREATEST, LEAST};
 use crate::lease::Lease;
 use crate::shelf::Shelf;
 use std::alloc::{AllocError, Global};
@@ -98,11 +98,14 @@ impl Pool {
         total
     }
 
-    /// How many blocks of the class are home.
+    /// How many blocks of the class are home. No other class than 12 to 28 has any.
     pub fn is_home(&self, class: u8) -> u32
-        requires { (12 ≤ class) × (class ≤ 28) }
-        ensures { result ≡ home_of self.now class }
+        ensures of_class { 12 ≤ class → class ≤ 28 → result ≡ home_of self.now class }
+        ensures of_none { (class < 12) ⊎ (28 < class) → result ≡ 0 }
     {
+        if class < LEAST || class > GREATEST {
+            return 0;
+        }
         self.shelves[usize::from(class - LEAST)].count_home()
     }
 

@@ -10,7 +10,8 @@ use Rattle.mlt_tree.specs.declared.group.GroupKind.TheVariants.{Producer}
 use Rattle.mlt_tree.specs.declared.group.Prop.{Prop}
 use Rattle.mlt_tree.specs.declared.table.Row.{Row}
 use Rattle.mlt_tree.specs.Table.{option_of, row_of}
-use Rattle.mlt_tree.specs.Words.{State, Last, Nothing, Waiting, Open, ◌>>=◌, fault, start, open_group, then_last, begin, is_option, known, supported, option_word, divided, with_prop, property_word, plain_word, free_word, step, steps, finish, groups}
+use Rattle.mlt_base.specs.Steps.{◌>>=◌}
+use Rattle.mlt_tree.specs.Words.{State, Last, Nothing, Waiting, Open, fault, start, open_group, then_last, begin, is_option, known, supported, option_word, divided, with_prop, property_word, plain_word, free_word, step, steps, finish, groups}
 use Rattle.mlt_tree.specs.GroupWords.{takes_argument, takes_properties, IsAllowedProp, IsAllowed}
 use Rattle.mlt_tree.proofs.Bound.{ok, ok_one, not_ok, bind_ok}
 use Rattle.mlt_tree.proofs.Options.{row_of-option}

@@ -2,7 +2,7 @@
 use Rattle.std.proofs.Common.{◌≡◌, Result, Ok, Err, refl, ap, arith}
 use Rattle.std.specs.Result.{result_unwrap_or}
 use Rattle.mlt_base.specs.declared.faults.WordFault.{WordFault}
-use Rattle.mlt_tree.specs.Words.{◌>>=◌}
+use Rattle.mlt_base.specs.Steps.{◌>>=◌}
 
 abbrev pub ok : {A : Type 0} → A → Result A WordFault
 ok x = Ok x

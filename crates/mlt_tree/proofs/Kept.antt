@@ -14,7 +14,8 @@ use Rattle.mlt_tree.specs.declared.group.GroupKind.TheVariants.{Producer}
 use Rattle.mlt_tree.specs.declared.group.Prop.{Prop}
 use Rattle.mlt_tree.specs.declared.table.Row.{Row}
 use Rattle.mlt_tree.specs.Table.{option_of, row_of, name_of}
-use Rattle.mlt_tree.specs.Words.{State, Last, Nothing, Waiting, Open, ◌>>=◌, fault, start, groups_of, then_last, begin, is_option, known, supported, option_word, is_equals, divided, with_prop, property_word, plain_word, free_word, step, steps, finish, groups}
+use Rattle.mlt_base.specs.Steps.{◌>>=◌}
+use Rattle.mlt_tree.specs.Words.{State, Last, Nothing, Waiting, Open, fault, start, groups_of, then_last, begin, is_option, known, supported, option_word, is_equals, divided, with_prop, property_word, plain_word, free_word, step, steps, finish, groups}
 use Rattle.mlt_tree.specs.GroupWords.{prop_word, own_words_by, own_words, words_of}
 use Rattle.mlt_tree.proofs.Bound.{ok, ok_one, not_ok, bind_ok}
 use Rattle.mlt_tree.proofs.Options.{nothing_found, row_of-option, name_of-option}

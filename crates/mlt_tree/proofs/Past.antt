@@ -1,7 +1,7 @@
 -- Past its length a tree has nothing and needs nothing.
 use Rattle.std.proofs.Common.{ℕ, ◌≡◌, ◌+◌, ◌-◌, ◌≤◌, Bool, true, false, ltb, cond, nat_eq, List, [], ◌++◌, None, refl, ap, ◌∙◌, arith}
 use Rattle.std.proofs.lemmas.Bool.Decides.{nat_tests}
-use Rattle.mlt_tree.specs.Tree.{Tree, Parts, Tracks, Src, Blank, Part, Seq, Rows, End, Then, NoTrack, Track, Medium, Pictures, Matter, makes, hides, mean, mean_in, rows, shown, or_under, len, len_in, longest, presence, alone, shown_set, needs, needs_in, needs_of_rows}
+use Rattle.mlt_tree.specs.Tree.{Tree, Parts, Tracks, Src, Blank, Part, Seq, With, Rows, End, Then, NoTrack, Track, Medium, Pictures, Matter, makes, hides, mean, mean_in, rows, shown, or_under, len, len_in, longest, presence, alone, shown_set, needs, needs_in, needs_of_rows}
 use Rattle.std.specs.List.{list_any}
 
 -- a test that fails chooses the second
@@ -20,7 +20,8 @@ mutual
   past v m (Blank frames) n h = refl
   past v m (Part t first last) n h = not_below n (last + 1 - first) _ None h
   past v m (Seq parts) n h = past_in v m parts n h
-  past v m (Rows tracks) n h = past_rows v m tracks n h
+  past v m (With t filters) n h = past v m t n h
+  past v m (Rows tracks plants) n h = past_rows v m tracks n h
 
   pub past_in : {A : Type 0} → (v : Medium) (m : Matter A) (parts : Parts) (n : ℕ) → len_in parts ≤ n → mean_in v m parts n ≡ None
   past_in v m End n h = refl
@@ -38,7 +39,8 @@ mutual
   needs_past (Blank frames) n h = refl
   needs_past (Part t first last) n h = not_below n (last + 1 - first) _ [] h
   needs_past (Seq parts) n h = needs_past_in parts n h
-  needs_past (Rows tracks) n h = needs_past_rows (shown_set (alone 0 (rows Pictures presence tracks n))) 0 tracks n h
+  needs_past (With t filters) n h = needs_past t n h
+  needs_past (Rows tracks plants) n h = needs_past_rows (shown_set (alone 0 (rows Pictures presence tracks n))) 0 tracks n h
 
   pub needs_past_in : (parts : Parts) (n : ℕ) → len_in parts ≤ n → needs_in parts n ≡ []
   needs_past_in End n h = refl

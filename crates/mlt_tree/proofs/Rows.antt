@@ -1,9 +1,14 @@
 -- The definitions, tried on worked compositions: each line is checked by computing both of its sides.
-use Rattle.std.specs.Prelude.{◌≡◌, refl, Some, codes}
+use Rattle.std.specs.Prelude.{◌≡◌, ◌++◌, refl, Some, codes}
+use Rattle.std.specs.List.{flat_map}
 use Rattle.std.specs.Fmt.{digits}
 use Rattle.mlt_tree.specs.declared.refusal.Cause.TheVariants as cause
 use Rattle.mlt_tree.specs.Refusing.{refusal_at}
+use Rattle.mlt_base.specs.Profile.{name_of}
+use Rattle.mlt_base.specs.declared.table.TheConstants.{PROFILES}
+use Rattle.mlt_tree.specs.declared.query.QueryKind.TheVariants.{Profiles}
 use Rattle.mlt_tree.specs.Lines.{refusal_line}
+use Rattle.mlt_tree.specs.Reading.{query_text}
 
 no_clip_line : refusal_line (refusal_at 4 cause.NoProducer) ≡ codes "melt: word 4: nothing to play\n"
 unfolding digits
@@ -16,3 +21,7 @@ in_file_line = refl
 range_line : refusal_line (refusal_at 4 (cause.BadRange 3 2 15000)) ≡ codes "melt: word 4: bad range 3 to 2 of 15000\n"
 unfolding digits
 range_line = refl
+
+-- the profiles that `-query` lists are those of the table, in its order
+profiles_listed : query_text Profiles ≡ flat_map (λ row. name_of row ++ codes "\n") PROFILES
+profiles_listed = refl

@@ -1,5 +1,5 @@
 -- The words of groups, and what is true of groups that were read from words.
-use Rattle.std.specs.Prelude.{ℕ, ◌+◌, ◌<◌, ◌≡◌, Bool, true, false, if◌then◌else◌, List, [], ◌∷◌, ◌++◌, length, map, All, Option, None, Some, Ok}
+use Rattle.std.specs.Prelude.{ℕ, ◌+◌, ◌<◌, ◌≡◌, Bool, true, false, if◌then◌else◌, List, [], ◌∷◌, ◌++◌, length, map, fold, max, All, Option, None, Some, Ok}
 use Rattle.std.specs.List.{flat_map, enumerate_from}
 use Rattle.std.specs.Str.{byte}
 use Rattle.mlt_tree.specs.declared.group.TheConstants.{MOST_WORDS}
@@ -28,6 +28,27 @@ words_of group = own_words group ++ map prop_word group.props
 -- no word is lost, made or moved: those of the groups, in order, are the words that were read
 abbrev pub KeepsWords : Type 0
 KeepsWords = (words : List (List ℕ)) (gs : List Group) → groups words ≡ Ok gs → flat_map words_of gs ≡ enumerate_from 0 words
+
+-- one more than a place, where that is more
+abbrev pub behind : ℕ → ℕ → ℕ
+behind most place = max most (place + 1)
+
+-- whether a word of its own stands behind the first word of a group of this option
+abbrev pub has_argument : Option Row → Bool
+has_argument None = false
+has_argument (Some row) = row.argument
+
+abbrev pub behind_group : ℕ → Group → ℕ
+behind_group most group =
+    fold (λ n prop. behind n prop.place) (behind most (if has_argument (row_of group.kind) then group.place + 1 else group.place)) group.props
+
+-- how many words groups are made of: one more than the greatest place of a word of theirs
+abbrev pub words_in : List Group → ℕ
+words_in groups = fold behind_group 0 groups
+
+-- words that were read into groups are so many
+abbrev pub CountsWords : Type 0
+CountsWords = (words : List (List ℕ)) (gs : List Group) → groups words ≡ Ok gs → words_in gs ≡ length words
 
 -- whether groups of this option have an argument; a producer's is its word
 abbrev pub takes_argument : Option Row → Bool

@@ -4,7 +4,7 @@ use Rattle.std.specs.Fmt.{signed_decimal}
 use Rattle.mlt_base.specs.declared.port.Port.{Port}
 use Rattle.mlt_base.specs.declared.port.Port.TheVariants.{Video, Audio, Script, Text}
 use Rattle.mlt_tree.specs.declared.refusal.Cause.{Cause}
-use Rattle.mlt_tree.specs.declared.refusal.Cause.TheVariants.{UnknownOption, Unsupported, MissingArgument, StrayProperty, UnknownService, BadValue, BadNumber, OutOfRange, BadRange, NoProducer, TooMany, TooLong, TooLarge}
+use Rattle.mlt_tree.specs.declared.refusal.Cause.TheVariants.{UnknownOption, Unsupported, MissingArgument, StrayProperty, UnknownService, BadValue, BadNumber, OutOfRange, TooFew, BadClip, BadSplit, BadRange, NoProducer, TooMany, TooLong, TooDeep, TooLarge}
 use Rattle.mlt_tree.specs.declared.refusal.Refusal.{Refusal}
 
 abbrev pub cause_text : Cause → List ℕ
@@ -17,11 +17,15 @@ cause_text BadValue = codes "bad value"
 cause_text (BadNumber fault) = codes "bad number"
 cause_text (OutOfRange value low high) =
     signed_decimal value ++ (codes " is outside " ++ (signed_decimal low ++ (codes " to " ++ signed_decimal high)))
+cause_text (TooFew asked there) = decimal asked ++ (codes " wanted, " ++ (decimal there ++ codes " there"))
+cause_text (BadClip index count) = codes "no clip at " ++ (decimal index ++ (codes " of " ++ decimal count))
+cause_text (BadSplit at frames) = codes "cannot split " ++ (decimal frames ++ (codes " frames at " ++ signed_decimal at))
 cause_text (BadRange first last length) =
     codes "bad range " ++ (decimal first ++ (codes " to " ++ (decimal last ++ (codes " of " ++ decimal length))))
 cause_text NoProducer = codes "nothing to play"
 cause_text (TooMany limit) = codes "more than " ++ decimal limit
 cause_text (TooLong frames) = decimal frames ++ codes " frames are too many"
+cause_text (TooDeep depth) = codes "nested " ++ (decimal depth ++ codes " deep")
 cause_text (TooLarge bytes) = decimal bytes ++ codes " bytes are too many"
 
 -- the place within the file that a word names, where there is one

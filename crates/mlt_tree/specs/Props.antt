@@ -6,7 +6,8 @@ use Rattle.mlt_base.specs.Whole.{whole}
 use Rattle.mlt_tree.specs.declared.group.Prop.{Prop}
 use Rattle.mlt_tree.specs.declared.refusal.Cause.TheVariants.{OutOfRange}
 use Rattle.mlt_tree.specs.declared.refusal.Refusal.{Refusal}
-use Rattle.mlt_tree.specs.Refusing.{◌>>=◌, refuse, at_word}
+use Rattle.mlt_base.specs.Steps.{◌>>=◌}
+use Rattle.mlt_tree.specs.Refusing.{refuse, at_word}
 use Rattle.mlt_tree.specs.Show.{Fraction}
 
 -- this property, where it has the name, else the one found before

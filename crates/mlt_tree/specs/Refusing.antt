@@ -1,15 +1,12 @@
--- Steps that may be refused, one after another.
+-- Refusals, and steps that may be refused.
 use Rattle.std.specs.Prelude.{ℕ, List, [], ◌∷◌, Option, None, Some, Result, Ok, Err}
 use Rattle.mlt_base.specs.declared.fault.NumFault.{NumFault}
+use Rattle.mlt_base.specs.Steps.{◌>>=◌}
+use Rattle.mlt_base.specs.declared.faults.PlayFault.{PlayFault}
+use Rattle.mlt_base.specs.declared.faults.PlayFault.TheVariants as play
 use Rattle.mlt_tree.specs.declared.refusal.Cause.{Cause}
-use Rattle.mlt_tree.specs.declared.refusal.Cause.TheVariants.{BadNumber}
+use Rattle.mlt_tree.specs.declared.refusal.Cause.TheVariants.{BadNumber, TooFew, BadClip, BadSplit, BadRange, TooMany, TooLong}
 use Rattle.mlt_tree.specs.declared.refusal.Refusal.{Refusal}
-
--- a step that passes its refusal on
-infixl 10 ◌>>=◌
-abbrev pub ◌>>=◌ : {A B : Type 0} → Result A Refusal → (A → Result B Refusal) → Result B Refusal
-(Ok x) >>= f = f x
-(Err refusal) >>= f = Err refusal
 
 -- the refusal of a word, in the run's own words
 abbrev pub refusal_at : ℕ → Cause → Refusal
@@ -27,6 +24,20 @@ known place cause (Some x) = Ok x
 abbrev pub at_word : {A : Type 0} → ℕ → Result A NumFault → Result A Refusal
 at_word place (Ok x) = Ok x
 at_word place (Err fault) = refuse place (BadNumber fault)
+
+-- the cause of an edit's refusal
+abbrev pub play_cause : PlayFault → Cause
+play_cause (play.BadClip index count) = BadClip index count
+play_cause (play.BadSplit at frames) = BadSplit at frames
+play_cause (play.BadRange first last length) = BadRange first last length
+play_cause (play.TooFew asked there) = TooFew asked there
+play_cause (play.TooMany limit) = TooMany limit
+play_cause (play.TooLong frames) = TooLong frames
+
+-- an edit's refusal is its group's
+abbrev pub at_group : {A : Type 0} → ℕ → Result A PlayFault → Result A Refusal
+at_group place (Ok x) = Ok x
+at_group place (Err fault) = refuse place (play_cause fault)
 
 -- a step for each element in order, up to the first that is refused
 abbrev pub over : {S X : Type 0} → (S → X → Result S Refusal) → S → List X → Result S Refusal

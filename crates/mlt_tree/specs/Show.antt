@@ -77,8 +77,8 @@ abbrev pub video_of : Show → ℕ → List ℕ
 video_of show n = packed show.output.pix (picture_at show n)
 
 -- how many positions are written
-abbrev pub frames_of : Show → ℕ
-frames_of show = show.output.last + 1 - show.output.first
+abbrev pub written_frames : Show → ℕ
+written_frames show = show.output.last + 1 - show.output.first
 
 -- the bytes of the first so many positions, one after another
 abbrev pub video_front : Show → ℕ → List ℕ
@@ -87,7 +87,7 @@ video_front show (suc count) = video_front show count ++ video_of show (show.out
 
 -- the bytes of all of them
 abbrev pub video_bytes : Show → List ℕ
-video_bytes show = video_front show (frames_of show)
+video_bytes show = video_front show (written_frames show)
 
 -- how many source pictures the first so many positions are made of, together
 abbrev pub loads_to : Show → ℕ → ℕ

@@ -1,9 +1,11 @@
 -- What a composition is, how long it is, and what it has at a position.
-use Rattle.std.specs.Prelude.{ℕ, ◌+◌, ◌-◌, ◌≡◌, ◌≤◌, Bool, true, false, max, nat_lt, nat_eq, if◌then◌else◌, List, [], ◌∷◌, ◌++◌, Option, None, Some}
+use Rattle.std.specs.Prelude.{ℕ, ◌+◌, ◌-◌, ◌≡◌, ◌≤◌, Bool, true, false, max, nat_lt, nat_eq, if◌then◌else◌, List, [], ◌∷◌, ◌++◌, length, Option, None, Some}
 use Rattle.std.specs.List.{list_any}
 use Rattle.mlt_tree.specs.declared.tree.SourceKind.{SourceKind}
 use Rattle.mlt_tree.specs.declared.tree.SourceKind.TheVariants.{Colour, Still, Sound}
+use Rattle.mlt_tree.specs.declared.tree.Attached.{Attached}
 use Rattle.mlt_tree.specs.declared.tree.Hide.{Hide}
+use Rattle.mlt_tree.specs.declared.tree.Plant.{Plant}
 
 mutual
   -- a composition, or a piece of one
@@ -16,8 +18,10 @@ mutual
     Part : Tree → (first last : ℕ) → Tree
     -- one after another
     Seq : Parts → Tree
-    -- tracks over each other, the later ones above
-    Rows : Tracks → Tree
+    -- filters on the whole, in order
+    With : Tree → List Attached → Tree
+    -- tracks over each other, the later ones above, with what is planted on them, in order
+    Rows : Tracks → List Plant → Tree
 
   pub data Parts : Type 0 where
     End : Parts
@@ -34,7 +38,8 @@ abbrev mutual
   len (Blank frames) = frames
   len (Part t first last) = last + 1 - first
   len (Seq parts) = len_in parts
-  len (Rows tracks) = longest tracks
+  len (With t filters) = len t
+  len (Rows tracks plants) = longest tracks
 
   pub len_in : Parts → ℕ
   len_in End = 0
@@ -78,14 +83,16 @@ shown [] = None
 shown (row ∷ rows) = or_under (shown rows) row
 
 abbrev mutual
-  -- what a tree has at position n, its picture or its sound, or nothing
+  -- what a tree has at position n, its picture or its sound, or nothing; filters and plants are not built
+  -- yet, so no composition that words make has any, and they are passed over here
   pub mean : {A : Type 0} → Medium → Matter A → Tree → ℕ → Option A
   mean v m (Src source kind frames) n =
       if makes v kind then (if nat_lt n frames then Some (m.source source n) else None) else None
   mean v m (Blank frames) n = None
   mean v m (Part t first last) n = if nat_lt n (last + 1 - first) then mean v m t (first + n) else None
   mean v m (Seq parts) n = mean_in v m parts n
-  mean v m (Rows tracks) n = shown (rows v m tracks n)
+  mean v m (With t filters) n = mean v m t n
+  mean v m (Rows tracks plants) n = shown (rows v m tracks n)
 
   -- the first part's where n lies in it, else that of the remaining parts at n less its length
   pub mean_in : {A : Type 0} → Medium → Matter A → Parts → ℕ → Option A
@@ -100,6 +107,10 @@ abbrev mutual
 -- whether there is something, whatever it looks like
 abbrev pub presence : Matter (Unit {0})
 presence = record { source = λ _ _. tt }
+
+-- each source as its own number
+abbrev pub numbers : Matter ℕ
+numbers = record { source = λ source n. source }
 
 -- for each row from the given number on, the rows that its picture is made of: at first itself alone
 -- where it has a picture, else none
@@ -124,7 +135,8 @@ abbrev mutual
   needs (Blank frames) n = []
   needs (Part t first last) n = if nat_lt n (last + 1 - first) then needs t (first + n) else []
   needs (Seq parts) n = needs_in parts n
-  needs (Rows tracks) n = needs_of_rows (shown_set (alone 0 (rows Pictures presence tracks n))) 0 tracks n
+  needs (With t filters) n = needs t n
+  needs (Rows tracks plants) n = needs_of_rows (shown_set (alone 0 (rows Pictures presence tracks n))) 0 tracks n
 
   pub needs_in : Parts → ℕ → List ℕ
   needs_in End n = []
@@ -143,7 +155,8 @@ abbrev mutual
   need (Blank frames) = 1
   need (Part t first last) = need t
   need (Seq parts) = need_in parts
-  need (Rows tracks) = tracks_in tracks + need_of_rows tracks
+  need (With t filters) = need t
+  need (Rows tracks plants) = tracks_in tracks + need_of_rows tracks
 
   -- the greatest of the parts, at least 1
   pub need_in : Parts → ℕ
@@ -157,6 +170,44 @@ abbrev mutual
   pub tracks_in : Tracks → ℕ
   tracks_in NoTrack = 0
   tracks_in (Track t hide tracks) = tracks_in tracks + 1
+
+abbrev mutual
+  -- how much there is in a tree: its filters and plants, and a source for each track at least
+  pub weight : Tree → ℕ
+  weight (Src source kind frames) = 1
+  weight (Blank frames) = 1
+  weight (Part t first last) = weight t
+  weight (Seq parts) = weight_in parts
+  weight (With t filters) = weight t + length filters
+  weight (Rows tracks plants) = weight_of_rows tracks + length plants
+
+  -- the greatest of the parts, at least 1
+  pub weight_in : Parts → ℕ
+  weight_in End = 1
+  weight_in (Then t parts) = max (weight t) (weight_in parts)
+
+  pub weight_of_rows : Tracks → ℕ
+  weight_of_rows NoTrack = 0
+  weight_of_rows (Track t hide tracks) = weight t + weight_of_rows tracks
+
+abbrev mutual
+  -- how many operations it takes at most to work a position out
+  pub ops : Tree → ℕ
+  ops (Src source kind frames) = 1
+  ops (Blank frames) = 1
+  ops (Part t first last) = ops t
+  ops (Seq parts) = ops_in parts
+  ops (With t filters) = ops t + length filters
+  ops (Rows tracks plants) = ops_of_rows tracks + length plants + (if nat_lt 1 (tracks_in tracks) then 1 else 0)
+
+  -- the greatest of the parts, at least 1
+  pub ops_in : Parts → ℕ
+  ops_in End = 1
+  ops_in (Then t parts) = max (ops t) (ops_in parts)
+
+  pub ops_of_rows : Tracks → ℕ
+  ops_of_rows NoTrack = 0
+  ops_of_rows (Track t hide tracks) = ops t + ops_of_rows tracks
 
 -- past its length a tree has no picture and no sound, and needs no source
 pub record IsSilentPast (t : Tree) (n : ℕ) : Type 0 where

@@ -2,6 +2,7 @@
 use Rattle.std.specs.Prelude.{ℕ, ◌+◌, ◌==◌, Bool, true, false, nat_lt, if◌then◌else◌, List, [], ◌∷◌, ◌++◌, length, Option, None, Some, Result, Ok, Err}
 use Rattle.std.specs.List.{position_or_len, before_first, after_first}
 use Rattle.std.specs.Str.{byte}
+use Rattle.mlt_base.specs.Steps.{◌>>=◌}
 use Rattle.mlt_base.specs.declared.faults.WordFault.{WordFault}
 use Rattle.mlt_base.specs.declared.faults.WordCause.{WordCause}
 use Rattle.mlt_base.specs.declared.faults.WordCause.TheVariants.{UnknownOption, Unsupported, MissingArgument, StrayProperty, TooMany}
@@ -12,12 +13,6 @@ use Rattle.mlt_tree.specs.declared.group.GroupKind.TheVariants.{Producer}
 use Rattle.mlt_tree.specs.declared.group.Prop.{Prop}
 use Rattle.mlt_tree.specs.declared.table.Row.{Row}
 use Rattle.mlt_tree.specs.Table.{option_of}
-
--- what was read goes on to the next step; the first fault stays
-infixl 10 ◌>>=◌
-abbrev pub ◌>>=◌ : {A B : Type 0} → Result A WordFault → (A → Result B WordFault) → Result B WordFault
-(Ok x) >>= f = f x
-(Err e) >>= f = Err e
 
 abbrev pub fault : {A : Type 0} → ℕ → WordCause → Result A WordFault
 fault place cause = Err (record { place = place; cause = cause })

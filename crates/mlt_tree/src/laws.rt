@@ -1,6 +1,6 @@
 //! Laws of the definitions: each is the contract of a function that does nothing.
 
-ghost use Rattle.mlt_tree.specs.GroupWords.{GivesAllowed, KeepsWords};
+ghost use Rattle.mlt_tree.specs.GroupWords.{CountsWords, GivesAllowed, KeepsWords};
 ghost use Rattle.mlt_tree.specs.Tree.{EndsAtItsLength};
 
 /// Past its length a tree has no picture and no sound, and needs no source.
@@ -12,6 +12,11 @@ pub fn ends_at_its_length()
 /// and each with its place, are the words that were read.
 pub fn words_are_kept()
     ensures { KeepsWords }
+{}
+
+/// Groups that were read from words have as many words.
+pub fn words_are_counted()
+    ensures { CountsWords }
 {}
 
 /// Groups that were read have places below 10,000, and an argument or properties only where their

@@ -6,17 +6,25 @@
 //! hosts. Below stands `mlt_base`; all crates that build, start or render a composition stand above.
 #![tactic(auto)]
 
+pub mod entry;
+pub mod filter;
 pub mod group;
 pub mod laws;
 pub mod lists;
+pub mod merge;
+pub mod node;
 pub mod query;
 pub mod refusal;
 pub mod table;
 pub mod tree;
 
+pub use entry::Entry;
+pub use filter::{FilterSpec, FilterStep};
 pub use group::{Group, GroupKind, MOST_WORDS, Prop};
-pub use lists::{GroupList, PropList, WordList};
+pub use lists::{FilterList, GroupList, ItemList, PropList, WordList};
+pub use merge::{MergeSpec, MergeStep};
+pub use node::{Body, Node, Track};
 pub use query::QueryKind;
 pub use refusal::{Cause, Refusal};
 pub use table::{OPTIONS, Row};
-pub use tree::{Hide, SourceKind};
+pub use tree::{Attached, Hide, Plant, SourceKind};

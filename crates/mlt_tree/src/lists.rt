@@ -1,182 +1,108 @@
-//! Lists of properties, of groups and of words, each of which contracts see as its list.
+//! Lists, each of which contracts see as the list of its items.
 
-ghost use Rattle.std.specs.Prelude.{◌≡◌, List, [], ◌∷◌, ◌++◌, length, slice_get, OnOk, OnErr, IfErr};
+ghost use Rattle.std.specs.Prelude.{◌≡◌, [], ◌∷◌, ◌++◌, length, slice_get, OnOk, OnErr, IfOk, IfErr};
 ghost use Rattle.std.specs.Option.{option_copied};
 
 use crate::group::{Group, Prop};
+use crate::tree::Attached;
 use mlt_base::Text;
 use std::alloc::{AllocError, Global};
 use std::marker::Model;
 
-/// The properties of a group, in the order of their words.
+/// Items in order, seen as their list. It is made from a `Vec` and given back as one without a copy.
 #[derive(Drop)]
-pub struct PropList {
-    props: Vec<Prop>,
+pub struct ItemList<T> {
+    items: Vec<T>,
 }
 
-impl Model for PropList {
-    ghost use Rattle.std.specs.Prelude.{List};
-    ghost use Rattle.mlt_tree.specs.declared.group.Prop.{Prop};
-
-    ghost Value = { List Prop };
-
-    ghost view = { λ list. list.props.items };
-}
-
-impl PropList {
-    /// An empty list. It takes no memory.
-    pub fn new(alloc: Global) -> PropList
-        ensures { result ≡ [] }
-    {
-        PropList {
-            props: Vec::new(alloc),
-        }
-    }
-
-    /// Puts a property behind the others, or hands it back for want of memory.
-    pub fn push(&mut self, item: Prop) -> Result<(), (Prop, AllocError)>
-        ensures pushed { OnOk result (self.new ≡ self.old ++ item ∷ []) }
-        ensures handed_back { IfErr result (λ e. e.0 ≡ item) }
-        ensures unchanged { OnErr result (self.new ≡ self.old) }
-    {
-        match self.props.push(item) {
-            Ok(()) => Ok(()),
-            Err(failed) => Err((failed.value, AllocError)),
-        }
-    }
-
-    /// How many properties there are.
-    pub fn count(&self) -> usize
-        ensures { result ≡ length self.now }
-    {
-        self.props.len()
-    }
-
-    /// The property at an index from 0, or none where there is none.
-    pub fn item(&self, index: usize) -> Option<&Prop>
-        ensures { option_copied result ≡ slice_get self.now index }
-    {
-        self.props.get(index)
-    }
-
-    pub fn as_slice(&self) -> &[Prop]
-        ensures { result.now ≡ self.now }
-    {
-        self.props.as_slice()
-    }
-}
+/// The properties of a group, in the order of their words.
+pub type PropList = ItemList<Prop>;
 
 /// Groups, in the order of their words.
-#[derive(Drop)]
-pub struct GroupList {
-    groups: Vec<Group>,
-}
-
-impl Model for GroupList {
-    ghost use Rattle.std.specs.Prelude.{List};
-    ghost use Rattle.mlt_tree.specs.declared.group.Group.{Group};
-
-    ghost Value = { List Group };
-
-    ghost view = { λ list. list.groups.items };
-}
-
-impl GroupList {
-    /// An empty list. It takes no memory.
-    pub fn new(alloc: Global) -> GroupList
-        ensures { result ≡ [] }
-    {
-        GroupList {
-            groups: Vec::new(alloc),
-        }
-    }
-
-    /// Puts a group behind the others, or hands it back for want of memory.
-    pub fn push(&mut self, item: Group) -> Result<(), (Group, AllocError)>
-        ensures pushed { OnOk result (self.new ≡ self.old ++ item ∷ []) }
-        ensures handed_back { IfErr result (λ e. e.0 ≡ item) }
-        ensures unchanged { OnErr result (self.new ≡ self.old) }
-    {
-        match self.groups.push(item) {
-            Ok(()) => Ok(()),
-            Err(failed) => Err((failed.value, AllocError)),
-        }
-    }
-
-    /// How many groups there are.
-    pub fn count(&self) -> usize
-        ensures { result ≡ length self.now }
-    {
-        self.groups.len()
-    }
-
-    /// The group at an index from 0, or none where there is none.
-    pub fn item(&self, index: usize) -> Option<&Group>
-        ensures { option_copied result ≡ slice_get self.now index }
-    {
-        self.groups.get(index)
-    }
-
-    pub fn as_slice(&self) -> &[Group]
-        ensures { result.now ≡ self.now }
-    {
-        self.groups.as_slice()
-    }
-}
+pub type GroupList = ItemList<Group>;
 
 /// Words, in order.
-#[derive(Drop)]
-pub struct WordList {
-    words: Vec<Text>,
+pub type WordList = ItemList<Text>;
+
+/// Filters, in the order in which they act.
+pub type FilterList = ItemList<Attached>;
+
+impl<T> Model for ItemList<T> {
+    ghost use Rattle.std.specs.Prelude.{List};
+    ghost use Rattle.std.specs.Coded.{coded_list};
+
+    ghost Value = { List T };
+
+    ghost coded = { coded_list T.code };
+
+    ghost view = { λ list. list.items.items };
 }
 
-impl Model for WordList {
-    ghost use Rattle.std.specs.Prelude.{ℕ, List};
-
-    ghost Value = { List (List ℕ) };
-
-    ghost view = { λ list. list.words.items };
-}
-
-impl WordList {
+impl<T> ItemList<T> {
     /// An empty list. It takes no memory.
-    pub fn new(alloc: Global) -> WordList
+    pub fn new(alloc: Global) -> ItemList<T>
         ensures { result ≡ [] }
     {
-        WordList {
-            words: Vec::new(alloc),
+        ItemList {
+            items: Vec::new(alloc),
         }
     }
 
-    /// Puts a word behind the others, or hands it back for want of memory.
-    pub fn push(&mut self, item: Text) -> Result<(), (Text, AllocError)>
+    pub fn from_vec(items: Vec<T>) -> ItemList<T>
+        ensures { result ≡ items.items }
+    {
+        ItemList { items }
+    }
+
+    pub fn into_vec(self) -> Vec<T>
+        ensures { result.items ≡ self }
+    {
+        let ItemList { items } = self;
+        items
+    }
+
+    /// Puts an item behind the others, or hands it back for want of memory.
+    pub fn push(&mut self, item: T) -> Result<(), (T, AllocError)>
         ensures pushed { OnOk result (self.new ≡ self.old ++ item ∷ []) }
         ensures handed_back { IfErr result (λ e. e.0 ≡ item) }
         ensures unchanged { OnErr result (self.new ≡ self.old) }
     {
-        match self.words.push(item) {
+        match self.items.push(item) {
             Ok(()) => Ok(()),
             Err(failed) => Err((failed.value, AllocError)),
         }
     }
 
-    /// How many words there are.
+    /// How many items there are.
     pub fn count(&self) -> usize
         ensures { result ≡ length self.now }
     {
-        self.words.len()
+        self.items.len()
     }
 
-    /// The word at an index from 0, or none where there is none.
-    pub fn item(&self, index: usize) -> Option<&Text>
+    /// The item at an index from 0, or none where there is none.
+    pub fn item(&self, index: usize) -> Option<&T>
         ensures { option_copied result ≡ slice_get self.now index }
     {
-        self.words.get(index)
+        self.items.get(index)
     }
 
-    pub fn as_slice(&self) -> &[Text]
+    pub fn as_slice(&self) -> &[T]
         ensures { result.now ≡ self.now }
     {
-        self.words.as_slice()
+        self.items.as_slice()
+    }
+}
+
+impl ItemList<Attached> {
+    /// A copy, with its own memory.
+    pub fn copy(&self) -> Result<FilterList, AllocError>
+        ensures { IfOk result (λ list. list ≡ self.now) }
+    {
+        let mut all = Vec::with_capacity(*self.items.allocator(), self.items.len())?;
+        for filter in self.items.as_slice() {
+            all.push(filter.copy()?)?;
+        }
+        Ok(ItemList { items: all })
     }
 }

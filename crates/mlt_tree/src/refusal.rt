@@ -1,6 +1,9 @@
 //! Why words are refused, and where.
 
-use mlt_base::NumFault;
+ghost use Rattle.std.specs.Prelude.{◌≡◌};
+ghost use Rattle.mlt_base.specs.declared.refusal.Try.TheVariants.{Fault};
+
+use mlt_base::{NumFault, Try};
 
 /// The cause of a refusal, with its numbers. `specs/Lines.antt` has the text of each.
 #[derive(Clone, Copy, Debug, PartialEq, Eq)]
@@ -21,14 +24,22 @@ pub enum Cause {
     BadNumber(NumFault),
     /// A whole number outside its range.
     OutOfRange { value: i64, low: i64, high: i64 },
+    /// More entries are asked for than are there.
+    TooFew { asked: u32, there: u32 },
+    /// No entry, or no clip, at an index of so many entries.
+    BadClip { index: u32, count: u32 },
+    /// An entry of so many frames can't be split there.
+    BadSplit { at: i64, frames: u32 },
     /// A range whose first is behind its last, or whose last is not below the length.
     BadRange { first: u32, last: u32, length: u32 },
     /// Nothing would be played.
     NoProducer,
     /// More than a limit allows.
     TooMany { limit: u32 },
-    /// More frames than a run writes.
+    /// More frames than a playlist has, or than a run writes.
     TooLong { frames: u64 },
+    /// Units that are nested too deep.
+    TooDeep { depth: u32 },
     /// More bytes than a run holds.
     TooLarge { bytes: u64 },
 }
@@ -42,4 +53,12 @@ pub struct Refusal {
     pub word: u32,
     pub inner: Option<u32>,
     pub cause: Cause,
+}
+
+impl From<Refusal> for Try<Refusal> {
+    ghost from_gives = { λ refusal e. e ≡ Fault refusal };
+
+    fn from(refusal: Refusal) -> Try<Refusal> {
+        Try::Fault(refusal)
+    }
 }

@@ -1,11 +1,29 @@
-use Rattle.std.proofs.Common.{refl, sym, arith}
-use Rattle.melt_run.specs.Show.{meant}
-use Rattle.melt_run.specs.Sources.{pixel}
-use Rattle.melt_run.proofs.OneClip.{drawn, first_source}
+use Rattle.std.proofs.Common.{◌≡◌, length, drop, sym, ap, ◌∙◌, arith, length-take}
+use Rattle.std.specs.Option.{option_to_list}
+use Rattle.std.proofs.lemmas.List.{take_at}
+use Rattle.mlt_graph.specs.Sealed.{tree}
+use Rattle.mlt_graph.specs.Show.{meant, pix_of}
+use Rattle.mlt_tree.specs.Picture.{plain}
+use Rattle.mlt_tree.specs.Show.{packed}
+use Rattle.mlt_tree.proofs.Named.{needs_named}
+use Rattle.melt_build.specs.Sources.{pixel}
+use Rattle.melt_run.specs.Pixels.{picture_bytes}
+use Rattle.melt_run.proofs.Drawn.{drawn}
 use Rattle.melt_run.proofs.draw.draw.Goals as goal
 
-pub returns : goal.returns
-returns c =
-    let show = c.args.show.now in let p = pixel c.colour.result in
-    let whole = drawn (meant show c.args.table.now) show.clip.length show.clip.first show.clip.last c.args.at p refl (first_source c.args.table.now p c.colour.ensures) (omega arith) (omega arith) in
-    rw (c.paint_as.ensures, c.pixels-count.ensures.value) (sym whole)
+pub returns-clause-picture : goal.returns-clause-picture
+returns-clause-picture c =
+    let show = c.args.show.now in
+    let first = c.paint.new.bytes in
+    let count = c.pixels-count.result in
+    let colour = pixel c.colour_of.result in
+    let bytes : length first ≡ c.picture_bytes-bytes.result =
+    let long = c.paint.auto.bytes in omega (arith, c.requires, length-take c.picture_bytes-bytes.result c.args.buffer.now, long)
+    in
+    let front = take_at first (drop c.picture_bytes-bytes.result c.args.buffer.now) (picture_bytes show) (bytes ∙ c.picture_bytes-bytes.ensures.value) in
+    let picture = drawn (meant show c.args.table.now) c.args.at _ colour c.source_at-source.ensures c.colour_of.ensures in
+    front ∙ c.paint.ensures ∙ ap (λ n. packed (pix_of show.output.pix) (plain n colour)) c.pixels-count.ensures.value ∙ sym picture
+
+pub returns-clause-loads : goal.returns-clause-loads
+returns-clause-loads c =
+    c.loads_of.ensures.value ∙ ap (λ seen. length (option_to_list seen)) c.source_at-source.ensures ∙ ap length (sym (needs_named (tree c.args.show.now.sealed) c.args.at))

@@ -1,8 +1,15 @@
-use Rattle.std.proofs.Common.{arith}
+use Rattle.std.proofs.Common.{length, sym, subst}
+use Rattle.mlt_tree.specs.Reading.{job_of, groups_read}
+use Rattle.mlt_tree.proofs.Allowed.{groups_sound}
+use Rattle.mlt_tree.proofs.Counts.{words_counted}
+use Rattle.melt_run.specs.Prepared.{Reads}
 use Rattle.melt_run.specs.Show.{texts}
-use Rattle.melt_run.proofs.Counted.{few_words, length_texts}
 use Rattle.melt_run.proofs.prepared.read.Goals as goal
 
-pub overflow_cast-words : goal.overflow_cast-words
-overflow_cast-words c =
-    let few = few_words (texts c.args.words.now) c.in-Ok.list c.in-Ok.ensures in omega (arith, few, length_texts c.args.words.now)
+pub job-requires : goal.job-requires
+job-requires g c = groups_sound (texts c.args.words.now) c.in-Ok.list c.in-Ok.ensures
+
+pub returns-in-Ok-clause-reads : goal.returns-in-Ok-clause-reads
+returns-in-Ok-clause-reads g c =
+    let words = texts c.args.words.now in
+    subst (λ read. Reads c.job.result (groups_read (length words) read)) (sym c.in-Ok.ensures) (subst (λ count. Reads c.job.result (job_of count c.in-Ok.list)) (words_counted words c.in-Ok.list c.in-Ok.ensures) c.job.ensures.reads)

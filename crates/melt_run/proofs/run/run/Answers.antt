@@ -2,8 +2,10 @@ use Rattle.std.proofs.Common.{sym, subst}
 use Rattle.std.proofs.lemmas.Option.{IfSome_then}
 use Rattle.mlt_tree.specs.Reading.{reading_on}
 use Rattle.melt_run.specs.Ends.{Ends}
-use Rattle.melt_run.specs.Show.{texts, meant}
-use Rattle.melt_run.specs.Prepared.{job_of, loads_on}
+use Rattle.mlt_graph.specs.Show.{meant}
+use Rattle.melt_run.specs.Show.{texts}
+use Rattle.melt_run.specs.Prepared.{loads_on}
+use Rattle.melt_run.specs.Text.{job_of}
 use Rattle.melt_run.proofs.Lifts.{show_from, print_from, refused_from, memory_from, asked_from}
 use Rattle.melt_run.proofs.run.run.Goals as goal
 

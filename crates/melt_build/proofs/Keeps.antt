@@ -1,0 +1,168 @@
+-- What holds of each entry of a list holds after an edit, where it holds of what is put in.
+use Rattle.std.proofs.Common.{ℕ, ◌≡◌, ◌+◌, ◌-◌, ◌<◌, ◌≤◌, ◌^◌, ℤ, Bool, true, false, ◌&&◌, cond, ltb, ltb-true, leb, leb-true, List, [], ◌∷◌, ◌++◌, length, take, drop, replicate, slice_get, Option, None, Some, Ok, Err, All, refl, ap, subst, arith, length-take, length-drop}
+use Rattle.std.proofs.lemmas.Bool.{and_parts}
+use Rattle.std.proofs.lemmas.List.Sums.{sum_by-cons}
+use Rattle.std.proofs.lemmas.List.Elements.{All-nil, All-cons, All-tail, All-head, All-append, All-take, All-drop, All-replicate, All-get_or, All-weaker}
+use Rattle.std.proofs.lemmas.Option.{slice_get_within, get_or_from_slice_get}
+use Rattle.std.specs.Result.{result_unwrap_or}
+use Rattle.mlt_base.specs.Reading.{held}
+use Rattle.mlt_base.specs.declared.faults.PlayFault.{PlayFault}
+use Rattle.mlt_tree.specs.declared.entry.Entry.{Entry}
+use Rattle.mlt_tree.specs.declared.entry.Entry.TheVariants.{Clip, Gap}
+use Rattle.mlt_tree.specs.Ranges.{IsEntry, frames}
+use Rattle.mlt_tree.specs.Edits as edit
+use Rattle.mlt_tree.specs.Edits.{Edit, grown, frames_in, replaced, with_entry, bad_clip, cut, clip, halves, before_split}
+use Rattle.mlt_tree.specs.Units.{IsEntryBelow}
+use Rattle.mlt_playlist.specs.Playlist.{IsList}
+use Rattle.mlt_playlist.proofs.Counts.{frames_in-part}
+use Rattle.mlt_playlist.proofs.Frames.{has_frame}
+
+-- an answer and a list
+abbrev answered : {A : Type 0} → A → List Entry → Edit A
+answered x es = Ok (x, es)
+
+pub edit_one : {A : Type 0} (x y : A) (es fs : List Entry) → answered x es ≡ answered y fs → (x ≡ y) × (es ≡ fs)
+edit_one {A} x y es fs h =
+    (ap (λ (r : Edit A). (result_unwrap_or {T = A × List Entry} r (x, es)).0) h, ap (λ (r : Edit A). (result_unwrap_or {T = A × List Entry} r (x, es)).1) h)
+
+not_refused : {A : Type 0} (e : PlayFault) (y : A) (fs : List Entry) → Err e ≡ answered y fs → ⊥
+not_refused e y fs h = grind arith
+
+-- a list that may have grown is the list that was made
+pub grown_is : {A : Type 0} (x y : A) (es fs : List Entry) → grown x es ≡ answered y fs → (x ≡ y) × (es ≡ fs)
+grown_is x y es fs h = by (ltb 100000 (length es)) (ltb (frames_in es) (2 ^ 31)) h where
+  by : (b c : Bool) → cond b (Err (PlayFault.TooMany 100000)) (cond c (answered x es) (Err (PlayFault.TooLong (frames_in es)))) ≡ answered y fs → (x ≡ y) × (es ≡ fs)
+  by true c h = absurd (not_refused _ y fs h)
+  by false true h = edit_one x y es fs h
+  by false false h = absurd (not_refused _ y fs h)
+
+-- an edit of an entry has one
+pub record Entered {A : Type 0} (es : List Entry) (at : ℕ) (act : Entry → Edit A) (y : A) (fs : List Entry) : Type 0 where
+  pub entry : Entry
+  pub here : slice_get es at ≡ Some entry
+  pub done : act entry ≡ answered y fs
+
+pub entered : {A : Type 0} (es : List Entry) (at : ℕ) (act : Entry → Edit A) (y : A) (fs : List Entry) → with_entry es at act ≡ answered y fs → Entered es at act y fs
+entered {A} es at act y fs h = by (slice_get es at) refl h where
+  run : Option Entry → Edit A
+  run None = bad_clip es at
+  run (Some e) = act e
+
+  by : (o : Option Entry) → slice_get es at ≡ o → run o ≡ answered y fs → Entered es at act y fs
+  by None is h = absurd (not_refused _ y fs h)
+  by (Some e) is h = record { entry = e; here = is; done = h }
+
+module _ (P : Entry → Type 0) where
+  at_index : (es : List Entry) (at : ℕ) (e : Entry) → All P es → slice_get es at ≡ Some e → P e
+  at_index es at e all h =
+      subst P (get_or_from_slice_get es at e e h) (All-get_or P es at e (slice_get_within es at e h) all)
+
+  pub keeps_replaced : (es new : List Entry) (at n : ℕ) → All P es → All P new → All P (replaced es at n new)
+  keeps_replaced es new at n all more =
+      All-append P (take at es) (new ++ drop (at + n) es) (All-take P at es all) (All-append P new (drop (at + n) es) more (All-drop P (at + n) es all))
+
+  pub keeps_append : (entry : Entry) (es fs : List Entry) (y : Unit {0}) → P entry → All P es → edit.append entry es ≡ answered y fs → All P fs
+  keeps_append entry es fs y one all h =
+      subst (All P) (grown_is tt y (es ++ entry ∷ []) fs h).1 (All-append P es (entry ∷ []) all (All-cons P entry [] one (All-nil P)))
+
+  pub keeps_remove : (at : ℕ) (es fs : List Entry) (y : Entry) → All P es → edit.remove at es ≡ answered y fs → All P fs
+  keeps_remove at es fs y all h =
+      let e = entered es at (λ e. answered e (replaced es at 1 [])) y fs h in
+      subst (All P) (edit_one e.entry y (replaced es at 1 []) fs e.done).1 (keeps_replaced es [] at 1 all (All-nil P))
+
+  pub keeps_repeat : (at n : ℕ) (es fs : List Entry) (y : Unit {0}) → All P es → edit.repeat_clip at n es ≡ answered y fs → All P fs
+  keeps_repeat at n es fs y all h =
+      let e = entered es at (λ e. grown tt (replaced es at 1 (replicate n e))) y fs h in
+      subst (All P) (grown_is tt y (replaced es at 1 (replicate n e.entry)) fs e.done).1 (keeps_replaced es (replicate n e.entry) at 1 all (All-replicate P n e.entry (at_index es at e.entry all e.here)))
+
+  pub keeps_split : ((e : Entry) (a b : ℕ) → P e → P (cut e a b)) → (at : ℕ) (k : ℤ) (es fs : List Entry) (y : Unit {0}) → All P es → edit.split at k es ≡ answered y fs → All P fs
+  keeps_split cuts at k es fs y all h =
+      let e = entered es at (λ e. by e (before_split (frames e) k)) y fs h in
+      found e.entry (at_index es at e.entry all e.here) (before_split (frames e.entry) k) e.done
+    where
+      by : Entry → Option ℕ → Edit (Unit {0})
+      by e None = Err (PlayFault.BadSplit k (frames e))
+      by e (Some count) = grown tt (replaced es at 1 (halves e count))
+
+      found : (e : Entry) → P e → (o : Option ℕ) → by e o ≡ answered y fs → All P fs
+      found e here None h = absurd (not_refused _ y fs h)
+      found e here (Some count) h =
+          subst (All P) (grown_is tt y (replaced es at 1 (halves e count)) fs h).1 (keeps_replaced es (halves e count) at 1 all (All-cons P (cut e 0 count) (cut e count (frames e) ∷ []) (cuts e 0 count here) (All-cons P (cut e count (frames e)) [] (cuts e count (frames e) here) (All-nil P))))
+
+  pub keeps_swap : (es fs : List Entry) (y : Unit {0}) → All P es → edit.swap_last es ≡ answered y fs → All P fs
+  keeps_swap es fs y all h = by (drop (length es - 2) es) (All-drop P (length es - 2) es all) h where
+    front : List Entry
+    front = take (length es - 2) es
+
+    run : List Entry → Edit (Unit {0})
+    run [] = edit.too_few es 0 2
+    run (a ∷ []) = edit.too_few es 0 2
+    run (a ∷ b ∷ rest) = Ok (tt, front ++ (b ∷ a ∷ []))
+
+    by : (last : List Entry) → All P last → run last ≡ answered y fs → All P fs
+    by [] some h = absurd (not_refused _ y fs h)
+    by (a ∷ []) some h = absurd (not_refused _ y fs h)
+    by (a ∷ b ∷ rest) some h =
+        let first : P a = All-head P a (b ∷ rest) some in
+        let second : P b = All-head P b rest (All-tail P a (b ∷ rest) some) in
+        subst (All P) (edit_one tt y (front ++ (b ∷ a ∷ [])) fs h).1 (All-append P front (b ∷ a ∷ []) (All-take P (length es - 2) es all) (All-cons P b (a ∷ []) second (All-cons P a [] first (All-nil P))))
+
+  -- what is joined is a part of the list
+  pub joined_part : (at n unit : ℕ) (es fs gs : List Entry) → All P es → edit.join at n unit es ≡ answered gs fs → All P gs
+  joined_part at n unit es fs gs all h = by (ltb 0 n && leb (at + n) (length es)) h where
+    part : List Entry
+    part = take n (drop at es)
+
+    by : (b : Bool) → cond b (answered part (replaced es at n (clip unit 0 (frames_in part - 1) [] ∷ []))) (edit.too_few es at (held n)) ≡ answered gs fs → All P gs
+    by true h =
+        subst (All P) (edit_one part gs (replaced es at n (clip unit 0 (frames_in part - 1) [] ∷ [])) fs h).0 (All-take P n (drop at es) (All-drop P at es all))
+    by false h = absurd (not_refused _ gs fs h)
+
+  pub keeps_join : (at n unit : ℕ) (es fs gs : List Entry) → All P es → P (clip unit 0 (frames_in (take n (drop at es)) - 1) []) → edit.join at n unit es ≡ answered gs fs → All P fs
+  keeps_join at n unit es fs gs all new h = by (ltb 0 n && leb (at + n) (length es)) h where
+    part : List Entry
+    part = take n (drop at es)
+
+    by : (b : Bool) → cond b (answered part (replaced es at n (clip unit 0 (frames_in part - 1) [] ∷ []))) (edit.too_few es at (held n)) ≡ answered gs fs → All P fs
+    by true h =
+        subst (All P) (edit_one part gs (replaced es at n (clip unit 0 (frames_in part - 1) [] ∷ [])) fs h).1 (keeps_replaced es (clip unit 0 (frames_in part - 1) [] ∷ []) at n all (All-cons P (clip unit 0 (frames_in part - 1) []) [] new (All-nil P)))
+    by false h = absurd (not_refused _ gs fs h)
+
+-- a unit is below a greater number too
+pub below_more : (n m : ℕ) → n ≤ m → (e : Entry) → IsEntryBelow n e → IsEntryBelow m e
+below_more n m h (Clip unit span filters) below = omega (arith, below)
+below_more n m h (Gap count) below = tt
+
+pub all_below_more : (n m : ℕ) (es : List Entry) → n ≤ m → All (IsEntryBelow n) es → All (IsEntryBelow m) es
+all_below_more n m es h all = All-weaker (IsEntryBelow n) (IsEntryBelow m) (below_more n m h) es all
+
+-- a cut is of the same unit
+pub cut_below : (n : ℕ) (e : Entry) (a b : ℕ) → IsEntryBelow n e → IsEntryBelow n (cut e a b)
+cut_below n (Clip unit span filters) a b below = below
+cut_below n (Gap count) a b below = tt
+
+long_enough : (at n : ℕ) (es : List Entry) → (ltb 0 n && leb (at + n) (length es)) ≡ true → 1 ≤ length (take n (drop at es))
+long_enough at n es tests =
+    let parts = and_parts (ltb 0 n) (leb (at + n) (length es)) tests in
+    let some : 0 < n = ltb-true 0 n parts.0 in
+    let inside : at + n ≤ length es = leb-true (at + n) (length es) parts.1 in
+    simp (length-take, length-drop) (omega (arith, some, inside))
+
+-- entries have a frame each
+some_frames : (es : List Entry) → All IsEntry es → 1 ≤ length es → 1 ≤ frames_in es
+some_frames [] all some = absurd (omega (arith, some))
+some_frames (e ∷ es) all some = omega (arith, sum_by-cons frames e es, has_frame e (All-head IsEntry e es all))
+
+-- what is joined has a frame, and not more than the list
+pub joined_frames : (at n unit : ℕ) (es fs gs : List Entry) → IsList es → edit.join at n unit es ≡ answered gs fs → (1 ≤ frames_in gs) × (frames_in gs < 2 ^ 31)
+joined_frames at n unit es fs gs list h = by (ltb 0 n && leb (at + n) (length es)) refl h where
+  part : List Entry
+  part = take n (drop at es)
+
+  by : (b : Bool) → (ltb 0 n && leb (at + n) (length es)) ≡ b → cond b (answered part (replaced es at n (clip unit 0 (frames_in part - 1) [] ∷ []))) (edit.too_few es at (held n)) ≡ answered gs fs → (1 ≤ frames_in gs) × (frames_in gs < 2 ^ 31)
+  by true tests h =
+      let same : part ≡ gs = (edit_one part gs (replaced es at n (clip unit 0 (frames_in part - 1) [] ∷ [])) fs h).0 in
+      let many : 1 ≤ length part = long_enough at n es tests in
+      let some : 1 ≤ frames_in part = some_frames part (All-take IsEntry n (drop at es) (All-drop IsEntry at es list.entries)) many in
+      subst (λ p. (1 ≤ frames_in p) × (frames_in p < 2 ^ 31)) same (some, omega (arith, frames_in-part es at n, list.short))
+  by false tests h = absurd (not_refused _ gs fs h)

@@ -1,0 +1,6 @@
+mod Composed
+mod Keeps
+mod Over
+mod Sealed
+mod Texts
+mod Tracks

@@ -1,0 +1,11 @@
+pub mod Builds
+pub mod Built
+pub mod Edited
+pub mod Given
+pub mod Loaded
+pub mod Object
+pub mod Reads
+pub mod Service
+pub mod Sources
+pub mod State
+pub mod Track

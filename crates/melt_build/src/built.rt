@@ -1,0 +1,119 @@
+//! Words that are not built yet: they are refused before all else that is said of a composition.
+
+ghost use Rattle.std.specs.Prelude.{◌≡◌, find};
+ghost use Rattle.std.specs.Option.{option_copied};
+ghost use Rattle.mlt_tree.specs.Unbuilt.{is_built as is_built_kind, is_later_prop, is_colour, producer_built, props_built, built, built_step};
+ghost use Rattle.mlt_tree.specs.Services.{producer_of, raw_of};
+ghost use Rattle.mlt_tree.specs.Refusing.{over};
+
+use crate::props::refusal_at;
+use crate::service::{Service, producer, raw};
+use mlt_tree::{Cause, Group, GroupKind, Prop, Refusal};
+
+fn kind_is_built(kind: GroupKind) -> bool
+    ensures { result ≡ is_built_kind kind }
+{
+    match kind {
+        GroupKind::Producer
+        | GroupKind::Group
+        | GroupKind::Blank
+        | GroupKind::Join
+        | GroupKind::Remove
+        | GroupKind::Repeat
+        | GroupKind::Split
+        | GroupKind::Swap
+        | GroupKind::Profile
+        | GroupKind::Consumer
+        | GroupKind::Query
+        | GroupKind::Version
+        | GroupKind::Quiet
+        | GroupKind::Silent
+        | GroupKind::Progress
+        | GroupKind::Verbose
+        | GroupKind::Debug
+        | GroupKind::Getc
+        | GroupKind::Timings
+        | GroupKind::Abort => true,
+        _ => false,
+    }
+}
+
+fn comes_later(prop: &Prop) -> bool
+    ensures { result ≡ is_later_prop prop.now }
+{
+    let name = prop.name.as_str();
+    name == "audio" || name == "channels" || name == "format"
+}
+
+/// The first property that comes later.
+fn later_prop(props: &[Prop]) -> Option<&Prop>
+    ensures { option_copied result ≡ find is_later_prop props.now }
+{
+    for prop in props {
+        if comes_later(prop) {
+            return Some(prop);
+        }
+    }
+    None
+}
+
+fn names_colour(word: &str) -> bool
+    ensures { result ≡ is_colour (producer_of word.now) }
+{
+    match producer(word) {
+        None => true,
+        Some(named) => match named.service {
+            Service::Colour => true,
+            Service::Picture => false,
+            Service::Sound => false,
+            Service::Melt => false,
+        },
+    }
+}
+
+/// A producer of a colour.
+fn producer_is_built(group: &Group) -> Result<(), Refusal>
+    ensures { result ≡ producer_built group.now }
+{
+    if names_colour(group.arg.as_str()) {
+        Ok(())
+    } else {
+        Err(refusal_at(group.place, Cause::Unsupported))
+    }
+}
+
+fn props_are_built(group: &Group) -> Result<(), Refusal>
+    ensures { result ≡ props_built group.now (raw_of group.now.arg) }
+{
+    match raw(group.arg.as_str()) {
+        None => Ok(()),
+        Some(_) => match later_prop(group.props.as_slice()) {
+            None => Ok(()),
+            Some(prop) => Err(refusal_at(prop.place, Cause::Unsupported)),
+        },
+    }
+}
+
+#[tactic(auto, unfolding(mlt_tree::specs::Unbuilt::built))]
+fn group_is_built(group: &Group) -> Result<(), Refusal>
+    ensures { result ≡ built group.now }
+{
+    if !kind_is_built(group.kind) {
+        return Err(refusal_at(group.place, Cause::Unsupported));
+    }
+    match group.kind {
+        GroupKind::Producer => producer_is_built(group),
+        GroupKind::Consumer => props_are_built(group),
+        _ => Ok(()),
+    }
+}
+
+/// Whether all groups are built, or the refusal of the first that is not.
+pub(crate) fn all_built(groups: &[Group]) -> Result<(), Refusal>
+    ensures { result ≡ over built_step tt groups.now }
+{
+    for group in groups {
+        group_is_built(group)?;
+    }
+    Ok(())
+}

@@ -1,0 +1,97 @@
+//! The colours that texts name.
+
+ghost use Rattle.std.specs.Prelude.{◌≡◌, ◌<◌, IfSome};
+ghost use Rattle.std.specs.Option.{option_map};
+ghost use Rattle.mlt_base.specs.Colour.{hex, hex_byte, rgba, rgb_or_argb, named, colour_of};
+ghost use Rattle.melt_build.specs.Sources.{pixel};
+
+use crate::sources::Colour;
+
+fn hex_digit(c: u8) -> Option<u8>
+    ensures value { result ≡ hex c }
+    ensures small { IfSome result (λ digit. digit < 16) }
+{
+    match c {
+        b'0'..=b'9' => Some(c - b'0'),
+        b'A'..=b'F' => Some(c - 55),
+        b'a'..=b'f' => Some(c - 87),
+        _ => None,
+    }
+}
+
+fn hex_pair(high: u8, low: u8) -> Option<u8>
+    ensures { result ≡ hex_byte high low }
+{
+    let x = hex_digit(high)?;
+    let y = hex_digit(low)?;
+    Some(x * 16 + y)
+}
+
+fn with_alpha(text: &[u8]) -> Option<Colour>
+    ensures { option_map pixel result ≡ rgba text.now }
+{
+    match text {
+        [r, r2, g, g2, b, b2, a, a2] => {
+            let r = hex_pair(*r, *r2)?;
+            let g = hex_pair(*g, *g2)?;
+            let b = hex_pair(*b, *b2)?;
+            let a = hex_pair(*a, *a2)?;
+            Some(Colour { r, g, b, a })
+        }
+        _ => None,
+    }
+}
+
+fn without_alpha(text: &[u8]) -> Option<Colour>
+    ensures { option_map pixel result ≡ rgb_or_argb text.now }
+{
+    match text {
+        [r, r2, g, g2, b, b2] => {
+            let r = hex_pair(*r, *r2)?;
+            let g = hex_pair(*g, *g2)?;
+            let b = hex_pair(*b, *b2)?;
+            Some(Colour { r, g, b, a: 255 })
+        }
+        [a, a2, r, r2, g, g2, b, b2] => {
+            let a = hex_pair(*a, *a2)?;
+            let r = hex_pair(*r, *r2)?;
+            let g = hex_pair(*g, *g2)?;
+            let b = hex_pair(*b, *b2)?;
+            Some(Colour { r, g, b, a })
+        }
+        _ => None,
+    }
+}
+
+const fn opaque(r: u8, g: u8, b: u8) -> Colour
+    ensures { result ≡ record { r = r; g = g; b = b; a = 255 } }
+{
+    Colour { r, g, b, a: 255 }
+}
+
+fn named_colour(text: &str) -> Option<Colour>
+    ensures { option_map pixel result ≡ named text.now }
+{
+    match text {
+        "black" => Some(opaque(0, 0, 0)),
+        "white" => Some(opaque(255, 255, 255)),
+        "red" => Some(opaque(255, 0, 0)),
+        "green" => Some(opaque(0, 255, 0)),
+        "blue" => Some(opaque(0, 0, 255)),
+        _ => None,
+    }
+}
+
+/// The colour that a text names.
+pub(crate) fn colour_named(text: &str) -> Option<Colour>
+    ensures { option_map pixel result ≡ colour_of text.now }
+{
+    let bytes = text.as_bytes();
+    if bytes.starts_with(b"0x") {
+        with_alpha(&bytes[2..])
+    } else if bytes.starts_with(b"#") {
+        without_alpha(&bytes[1..])
+    } else {
+        named_colour(text)
+    }
+}

@@ -1,0 +1,31 @@
+//! From groups of words to a show: the composition that they make, and the table of its sources.
+//!
+//! [`build`] gives exactly the show of `mlt_tree`'s `specs/Sealing`, or its refusal with the place. Each
+//! step is one small function with the name of its definition: `built` refuses what is not built yet,
+//! `composition` takes the profile and then the groups in word order, `state` and `track` do one group,
+//! and `seal` tests the whole at the end. `object` keeps the properties of a group by name, and `props`
+//! reads their values.
+//!
+//! Below stand `mlt_graph`, which the composition grows in, and `melt_words`, whose groups it reads; above,
+//! the top call. Start reading at [`show`], then at `composition`.
+#![tactic(auto)]
+
+mod built;
+mod colours;
+mod composition;
+mod consumer;
+mod edits;
+mod object;
+mod props;
+mod seal;
+mod service;
+pub mod show;
+pub mod sources;
+mod state;
+mod track;
+
+pub use show::{BuildFault, build};
+pub use sources::{Colour, SourceTable};
+
+#[cfg(test)]
+mod tests;

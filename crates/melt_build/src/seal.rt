@@ -1,0 +1,204 @@
+//! The end of a composition: whether there is something to play, and not too much of it.
+
+ghost use Rattle.std.specs.Prelude.{◌≡◌, ◌≤◌, ◌<◌, ◌+◌, ◌-◌, ◌^◌, ◌++◌, [], ◌∷◌, length, All, IfOk, unwrap_or};
+ghost use Rattle.std.specs.Option.{option_map};
+ghost use Rattle.mlt_base.specs.Try.{TryGives};
+ghost use Rattle.mlt_tree.specs.Composition.{State as StateOf};
+ghost use Rattle.mlt_tree.specs.Sealing.{unit_of, bytes_of, few_frames as few_frames_of, few_bytes as few_bytes_of, ranged as ranged_of, sealable, shown as shown_of, seal as seal_of, settings_of, default_consumer as default_of};
+ghost use Rattle.mlt_tree.specs.Sources.{Fits};
+ghost use Rattle.mlt_tree.specs.Tree.{len};
+ghost use Rattle.mlt_tree.specs.Units.{IsEntryBelow, tractor_of};
+ghost use Rattle.mlt_graph.specs.Sealed.{tree};
+ghost use Rattle.mlt_graph.specs.Show.{profile_view, output_view, meant};
+ghost use Rattle.melt_build.specs.Built.{refusal_of};
+ghost use Rattle.melt_build.specs.Reads.{Takes};
+ghost use Rattle.melt_build.specs.State.{IsComposed, consumer_view, cut_view, state_view};
+
+use crate::consumer::Consumer;
+use crate::props::refusal_at;
+use crate::sources::SourceTable;
+use crate::state::{Cut, State, cut_between};
+use mlt_base::{Pos, Profile, Text, Try};
+use mlt_graph::{Format, Graph, GraphFault, Level, Output, Pix, Sealed, Show};
+use mlt_tree::{Cause, Refusal};
+use std::alloc::{AllocError, Global};
+
+/// The bytes of one picture or of one pair's sound in a frame, whichever is more.
+fn unit(profile: &Profile) -> u64
+    ensures value { result ≡ unit_of (profile_view profile.now) }
+    ensures small { result ≤ 2 ^ 26 }
+{
+    let picture = u64::from(profile.width) * u64::from(profile.height) * 4;
+    let sound = 4 * u64::from(profile.most_samples());
+    picture.max(sound)
+}
+
+/// The bytes that a run holds at most, where one evaluation holds so many buffers.
+fn bytes(profile: &Profile, c: &Consumer<'_>, need: u32) -> u64
+    requires { need ≤ 4369 }
+    ensures { result ≡ bytes_of (profile_view profile.now) (consumer_view c.now) need }
+{
+    let hands = u64::from(c.workers) + 1;
+    unit(profile) * (u64::from(c.buffer) + hands * u64::from(need) + u64::from(c.cache))
+}
+
+fn few_frames(count: u32, range: Cut) -> Result<Cut, Refusal>
+    requires { range.last < 2 ^ 31 }
+    ensures value { Takes cut_view result (few_frames_of count (cut_view range)) }
+    ensures same { IfOk result (λ c. c ≡ range) }
+    ensures few { IfOk result (λ c. c.last + 1 - c.first ≤ 1000000) }
+{
+    let frames = (range.last + 1).saturating_sub(range.first);
+    if frames <= 1_000_000 {
+        Ok(range)
+    } else {
+        Err(refusal_at(
+            count,
+            Cause::TooLong {
+                frames: u64::from(frames),
+            },
+        ))
+    }
+}
+
+fn few_bytes(count: u32, bytes: u64, range: Cut) -> Result<Cut, Refusal>
+    ensures value { Takes cut_view result (few_bytes_of count bytes (cut_view range)) }
+    ensures same { IfOk result (λ c. c ≡ range) }
+{
+    if bytes <= 2_147_483_648 {
+        Ok(range)
+    } else {
+        Err(refusal_at(count, Cause::TooLarge { bytes }))
+    }
+}
+
+/// The positions that are written.
+#[tactic(auto, unfolding(mlt_tree::specs::Sealing::ranged))]
+fn ranged(count: u32, profile: &Profile, c: &Consumer<'_>, sealed: &Sealed) -> Result<Cut, Refusal>
+    requires { 1 ≤ len (tree sealed.now) }
+    ensures value { Takes cut_view result (ranged_of count (profile_view profile.now) (consumer_view c.now) (tree sealed.now)) }
+    ensures ordered { IfOk result (λ range. (range.first ≤ range.last) × (range.last < len (tree sealed.now))) }
+    ensures few { IfOk result (λ range. range.last + 1 - range.first ≤ 1000000) }
+{
+    let range = cut_between(c.place, sealed.length(), c.first.unwrap_or(0), c.last)?;
+    let range = few_frames(count, range)?;
+    few_bytes(count, bytes(profile, c, sealed.need()), range)
+}
+
+/// `raw:-` with the defaults.
+fn default_consumer() -> Consumer<'static>
+    ensures { consumer_view result ≡ default_of }
+{
+    Consumer {
+        place: 0,
+        video: "-",
+        pix: Pix::Rgb,
+        workers: 0,
+        buffer: 25,
+        slices: 1,
+        cache: 4,
+        first: None,
+        last: None,
+    }
+}
+
+/// The settings of the consumer, on a range of positions.
+fn output(alloc: Global, c: &Consumer<'_>, range: Cut) -> Result<Output, AllocError>
+    requires ordered { range.first ≤ range.last }
+    requires few { range.last + 1 - range.first ≤ 1000000 }
+    ensures value { IfOk result (λ output. output_view output ≡ settings_of (consumer_view c.now) (cut_view range)) }
+    ensures last { IfOk result (λ output. output.last.0 ≡ range.last) }
+{
+    Ok(Output {
+        video: Text::new(alloc, c.video)?,
+        audio: None,
+        pix: c.pix,
+        first: Pos(range.first),
+        last: Pos(range.last),
+        workers: c.workers,
+        buffer: c.buffer,
+        slices: c.slices,
+        cache: c.cache,
+        channels: 2,
+        format: Format::S16,
+    })
+}
+
+/// The refusal of a graph, at the end of so many words.
+fn graph_refusal(count: u32, fault: GraphFault) -> Try<Refusal>
+    ensures { result ≡ refusal_of count fault }
+{
+    match fault {
+        GraphFault::NoProducer => Try::Fault(refusal_at(count, Cause::NoProducer)),
+        GraphFault::TooDeep { depth } => Try::Fault(refusal_at(count, Cause::TooDeep { depth })),
+        GraphFault::TooMany { limit } => Try::Fault(refusal_at(count, Cause::TooMany { limit })),
+        GraphFault::Memory => Try::Memory,
+    }
+}
+
+/// The graph with a tractor of the tracks as its top, sealed.
+#[tactic(auto, unfolding(mlt_tree::specs::Sealing::sealable))]
+fn sealed(count: u32, mut graph: Graph, level: Level) -> Result<Sealed, Try<Refusal>>
+    requires { All (λ draft. All (IsEntryBelow (length graph)) draft.entries) level }
+    ensures value { TryGives (λ _. tt) result (sealable count (graph ++ tractor_of level ∷ []) (length graph)) }
+    ensures sealed { IfOk result (λ sealed. sealed ≡ record { units = graph ++ tractor_of level ∷ []; top = length graph }) }
+{
+    let top = match graph.add_tractor(level) {
+        Ok(top) => top,
+        Err(fault) => return Err(graph_refusal(count, fault)),
+    };
+    match graph.seal(top) {
+        Ok(sealed) => Ok(sealed),
+        Err(fault) => Err(graph_refusal(count, fault)),
+    }
+}
+
+/// The show of a tree, on the positions that the consumer writes.
+#[tactic(auto, unfolding(mlt_tree::specs::Sealing::shown))]
+fn shown(
+    alloc: Global,
+    count: u32,
+    profile: Profile,
+    consumer: Option<Consumer<'_>>,
+    sealed: Sealed,
+) -> Result<Show, Try<Refusal>>
+    ensures show { (s : StateOf) → s.frames ≡ profile_view profile → s.consumer ≡ option_map consumer_view consumer.entry →
+        TryGives (λ show. meant show s.sources) result (shown_of count s (tree sealed)) }
+    ensures tree { IfOk result (λ show. tree show.sealed ≡ tree sealed) }
+{
+    let c = consumer.unwrap_or(default_consumer());
+    let range = ranged(count, &profile, &c, &sealed)?;
+    match output(alloc, &c, range) {
+        Ok(output) => Ok(Show {
+            sealed,
+            profile,
+            output,
+        }),
+        Err(_) => Err(Try::Memory),
+    }
+}
+
+/// The composition at the end of so many words.
+#[tactic(auto, unfolding(mlt_tree::specs::Sealing::seal))]
+pub(crate) fn seal(
+    alloc: Global,
+    count: u32,
+    state: State<'_>,
+) -> Result<(Show, SourceTable), Try<Refusal>>
+    requires { IsComposed state }
+    ensures show { TryGives (λ made. meant made.0 made.1) result (seal_of count (state_view state.entry)) }
+    ensures fits { IfOk result (λ made. Fits made.1 (tree made.0.sealed)) }
+{
+    let State {
+        profile,
+        inherited,
+        graph,
+        level,
+        table,
+        consumer,
+    } = state;
+    inherited.end();
+    let sealed = sealed(count, graph, level)?;
+    let show = shown(alloc, count, profile, consumer, sealed)?;
+    Ok((show, table))
+}

@@ -1,0 +1,127 @@
+//! From groups to a show.
+
+ghost use Rattle.std.specs.Prelude.{◌≡◌, ◌≤◌, All, IfOk, [], find};
+ghost use Rattle.std.specs.Option.{option_copied};
+ghost use Rattle.mlt_host.specs.Host.{OnlyLoads};
+ghost use Rattle.mlt_base.specs.Try.{TryGives};
+ghost use Rattle.mlt_tree.specs.GroupWords.{IsAllowed, IsAllowedProp, behind, behind_group, has_argument, words_in};
+ghost use Rattle.mlt_tree.specs.Sealing.{show_of};
+ghost use Rattle.mlt_tree.specs.Sources.{Fits};
+ghost use Rattle.mlt_tree.specs.Table.{is_kind, row_of};
+ghost use Rattle.mlt_graph.specs.Sealed.{tree};
+ghost use Rattle.mlt_graph.specs.Show.{meant};
+ghost use Rattle.melt_build.specs.Builds.{Builds};
+
+use crate::composition::composed;
+use crate::seal::seal;
+use crate::sources::SourceTable;
+use mlt_base::Try;
+use mlt_graph::Show;
+use mlt_host::Host;
+use mlt_tree::{Group, GroupKind, GroupList, OPTIONS, Refusal, Row};
+use std::alloc::Global;
+
+/// Why groups make no show.
+#[derive(Clone, Copy, Debug, PartialEq, Eq)]
+pub enum BuildFault {
+    /// The groups are refused.
+    Refused(Refusal),
+    /// Memory was wanting.
+    Memory,
+}
+
+/// Whether an option is of this kind.
+fn is_of_kind(row: &Row, kind: GroupKind) -> bool
+    ensures { result ≡ is_kind kind row.now.kind }
+{
+    match row.kind {
+        Some(other) => kind == other,
+        None => false,
+    }
+}
+
+/// The row of a kind of group, where an option is of it.
+fn row_of_kind(rows: &[Row], kind: GroupKind) -> Option<&Row>
+    ensures { option_copied result ≡ find (λ row. is_kind kind row.kind) rows.now }
+{
+    for row in rows {
+        if is_of_kind(row, kind) {
+            return Some(row);
+        }
+    }
+    None
+}
+
+/// Whether a word of its own stands behind the first word of a group of this kind.
+#[tactic(auto, unfolding(mlt_tree::specs::Table::row_of))]
+fn takes_argument(kind: GroupKind) -> bool
+    ensures { result ≡ has_argument (row_of kind) }
+{
+    match row_of_kind(&OPTIONS, kind) {
+        Some(row) => row.argument,
+        None => false,
+    }
+}
+
+/// One more than the place of a group's last word, or the number before where that is more.
+fn behind_words(most: u32, group: &Group) -> u32
+    requires most { most ≤ 10001 }
+    requires allowed { IsAllowed group.now }
+    ensures value { result ≡ behind_group most group.now }
+    ensures few { result ≤ 10001 }
+{
+    let argument = u32::from(takes_argument(group.kind));
+    let mut most = most.max(group.place + argument + 1);
+    for prop in group.props.as_slice() {
+        most = most.max(prop.place + 1);
+    }
+    most
+}
+
+/// How many words the groups are made of.
+fn word_count(groups: &[Group]) -> u32
+    requires { All IsAllowed groups.now }
+    ensures { result ≡ words_in groups.now }
+{
+    let mut most = 0;
+    for group in groups {
+        most = behind_words(most, group);
+    }
+    most
+}
+
+/// The show of the groups of so many words.
+#[tactic(auto, unfolding(mlt_tree::specs::Sealing::show_of))]
+fn made(alloc: Global, count: u32, groups: &[Group]) -> Result<(Show, SourceTable), Try<Refusal>>
+    ensures show { TryGives (λ made. meant made.0 made.1) result (show_of count groups.now) }
+    ensures fits { IfOk result (λ made. Fits made.1 (tree made.0.sealed)) }
+{
+    let state = composed(alloc, groups)?;
+    seal(alloc, count, state)
+}
+
+/// Makes the show that groups mean, and the table of its sources; it loads the files that they name, of
+/// which no group that is built names one.
+///
+/// The groups are those of words that are to be played. `Refused` is the first refusal of what is not built,
+/// of the profile, of the groups in word order, and of the whole; its place is a word's, or the number of
+/// words. `Memory` is want of memory. Nothing is created or appended.
+pub fn build<H: Host>(
+    alloc: Global,
+    groups: &GroupList,
+    host: &mut H,
+) -> Result<(Show, SourceTable), BuildFault>
+    requires { All IsAllowed groups.now }
+    ensures show { Builds (λ made. meant made.0 made.1) result (show_of (words_in groups.now) groups.now) }
+    ensures fits { IfOk result (λ made. Fits made.1 (tree made.0.sealed)) }
+    ensures asked { (H.state host.new).asked ≡ (H.state host.old).asked }
+    ensures rest { OnlyLoads (H.state host.old) (H.state host.new) }
+{
+    let _ = host;
+    let list = groups.as_slice();
+    match made(alloc, word_count(list), list) {
+        Ok(made) => Ok(made),
+        Err(Try::Fault(refusal)) => Err(BuildFault::Refused(refusal)),
+        Err(Try::Memory) => Err(BuildFault::Memory),
+    }
+}

@@ -1,0 +1,86 @@
+//! Compositions that are built, and some that are not.
+
+ghost use Rattle.std.specs.Prelude.{All, IfOk};
+ghost use Rattle.mlt_tree.specs.GroupWords.{IsAllowed};
+
+use super::*;
+use melt_words::groups;
+use mlt_base::SourceNo;
+use mlt_graph::Format;
+use mlt_host::CalmHost;
+use mlt_tree::{Cause, GroupList};
+use std::alloc::Global;
+use std::test::Fail;
+
+/// The groups of the words of a line.
+fn read(alloc: Global, line: &str) -> Result<GroupList, Fail>
+    ensures { IfOk result (λ list. All IsAllowed list) }
+{
+    let mut words = Vec::new(alloc);
+    for text in line.split(' ') {
+        words.push(String::from_str(alloc, text)?)?;
+    }
+    match groups(alloc, words.as_slice()) {
+        Ok(list) => Ok(list),
+        Err(_) => Err(Fail::new("the words are refused")),
+    }
+}
+
+#[test]
+fn builds_clips_gaps_and_a_join(rt: HostRuntime) -> Result<(), Fail> {
+    let alloc = rt.alloc();
+    let list = read(
+        alloc,
+        "-profile 2x1@25/1 -consumer raw:v pix=rgba in=1 colour:red out=1 -blank 0 -join 2 colour:blue out=0",
+    )?;
+    let mut host = CalmHost::new(alloc);
+    match build(alloc, &list, &mut host) {
+        Ok((show, table)) => {
+            assert_eq!(rt; show.sealed.length(), 4);
+            assert_eq!(rt; show.output.video.as_str(), "v");
+            assert_eq!(rt; (show.output.first.0, show.output.last.0), (1, 3));
+            assert_eq!(rt;
+                (show.output.channels, show.output.format),
+                (2, Format::S16)
+            );
+            assert_eq!(rt; table.colour(SourceNo(2)), None);
+            let blue = Colour {
+                r: 0,
+                g: 0,
+                b: 255,
+                a: 255,
+            };
+            assert_eq!(rt; table.colour(SourceNo(1)), Some(blue));
+        }
+        Err(_) => return Err(Fail::new("not built")),
+    }
+    Ok(())
+}
+
+#[test]
+fn counts_the_words_of_its_groups(rt: HostRuntime) -> Result<(), Fail> {
+    let alloc = rt.alloc();
+    // The words, and how many they are, which is where nothing to play is refused.
+    let rows: [(&str, u32); 4] = [
+        ("-profile 1x1@25/1", 2),
+        ("-consumer raw:v cache=1", 3),
+        ("-group in=1 -quiet", 3),
+        ("-group -blank 0 -remove", 4),
+    ];
+    for (line, count) in rows {
+        let list = read(alloc, line)?;
+        let mut host = CalmHost::new(alloc);
+        match build(alloc, &list, &mut host) {
+            Ok(_) => return Err(Fail::new("something is played")),
+            Err(fault) => {
+                let refusal = mlt_tree::Refusal {
+                    word: count,
+                    inner: None,
+                    cause: Cause::NoProducer,
+                };
+                assert_eq!(rt; fault, BuildFault::Refused(refusal), "{line}");
+            }
+        }
+    }
+    Ok(())
+}

@@ -1,0 +1,148 @@
+//! What options do to the entries of the track.
+
+ghost use Rattle.std.specs.Prelude.{◌≡◌, ◌≤◌, OnOk};
+ghost use Rattle.mlt_base.specs.Try.{TryGives};
+ghost use Rattle.mlt_tree.specs.Composition.{blank as blank_of, remove as remove_of, repeat as repeat_of, split as split_of, split_at_frame as split_at_frame_of, swap as swap_of, join as join_of, joined as joined_of};
+ghost use Rattle.mlt_tree.specs.Refusing.{refusal_at as refusal_of};
+ghost use Rattle.mlt_tree.specs.declared.refusal.Cause.{Cause};
+ghost use Rattle.mlt_graph.specs.Drafts.{last_entries};
+ghost use Rattle.melt_build.specs.State.{IsComposed, state_view};
+ghost use Rattle.melt_build.specs.Track.{IsLastIndex};
+
+use crate::edits::{edited, refused};
+use crate::props::{counted, refusal_at, timed};
+use crate::state::State;
+use mlt_base::{Try, read_whole};
+use mlt_tree::{Cause, Group, Refusal};
+
+impl State<'_> {
+    /// A gap.
+    #[tactic(auto, unfolding(mlt_tree::specs::Composition::blank))]
+    pub(crate) fn blank(&mut self, group: &Group) -> Result<(), Try<Refusal>>
+        requires { IsComposed self.old }
+        ensures value { TryGives (λ _. state_view self.new) result (blank_of (state_view self.old) group.now) }
+        ensures composed { OnOk result (IsComposed self.new) }
+    {
+        match timed(self.profile.rate, group.arg.as_str()) {
+            Err(cause) => Err(Try::Fault(refusal_at(group.place, cause))),
+            Ok(last) => edited(group.place, self.level.last().blank(last)),
+        }
+    }
+
+    /// The index of the last entry, where there is one.
+    fn last_index(&self) -> Option<usize>
+        ensures { IsLastIndex (last_entries self.now.level) result }
+    {
+        self.level.last_list().count().checked_sub(1)
+    }
+
+    /// Removes the last entry.
+    pub(crate) fn remove(&mut self, group: &Group) -> Result<(), Try<Refusal>>
+        requires { IsComposed self.old }
+        ensures value { TryGives (λ _. state_view self.new) result (remove_of (state_view self.old) group.now) }
+        ensures composed { OnOk result (IsComposed self.new) }
+    {
+        let Some(last) = self.last_index() else {
+            return Err(Try::Fault(no_entry(group.place)));
+        };
+        match self.level.last().remove(last) {
+            Ok(_) => Ok(()),
+            Err(fault) => Err(Try::Fault(refused(group.place, fault))),
+        }
+    }
+
+    /// Repeats the last entry, so that there are so many of it.
+    #[tactic(auto, unfolding(mlt_tree::specs::Composition::repeat))]
+    pub(crate) fn repeat(&mut self, group: &Group) -> Result<(), Try<Refusal>>
+        requires { IsComposed self.old }
+        ensures value { TryGives (λ _. state_view self.new) result (repeat_of (state_view self.old) group.now) }
+        ensures composed { OnOk result (IsComposed self.new) }
+    {
+        let n = match counted(1, 100000, group.arg.as_str()) {
+            Ok(n) => n,
+            Err(cause) => return Err(Try::Fault(refusal_at(group.place, cause))),
+        };
+        let Some(last) = self.last_index() else {
+            return Err(Try::Fault(no_entry(group.place)));
+        };
+        edited(group.place, self.level.last().repeat_clip(last, n))
+    }
+
+    /// Splits the last entry at a frame.
+    fn split_at_frame(&mut self, group: &Group, k: i64) -> Result<(), Try<Refusal>>
+        requires { IsComposed self.old }
+        ensures value { TryGives (λ _. state_view self.new) result (split_at_frame_of (state_view self.old) group.now k) }
+        ensures composed { OnOk result (IsComposed self.new) }
+    {
+        let Some(last) = self.last_index() else {
+            return Err(Try::Fault(no_entry(group.place)));
+        };
+        edited(group.place, self.level.last().split(last, k))
+    }
+
+    /// Splits the last entry.
+    #[tactic(auto, unfolding(mlt_tree::specs::Composition::split))]
+    pub(crate) fn split(&mut self, group: &Group) -> Result<(), Try<Refusal>>
+        requires { IsComposed self.old }
+        ensures value { TryGives (λ _. state_view self.new) result (split_of (state_view self.old) group.now) }
+        ensures composed { OnOk result (IsComposed self.new) }
+    {
+        match read_whole(group.arg.as_str()) {
+            Ok(k) => self.split_at_frame(group, k),
+            Err(fault) => {
+                let cause = Cause::BadNumber(fault);
+                Err(Try::Fault(refusal_at(group.place, cause)))
+            }
+        }
+    }
+
+    /// Exchanges the last two entries.
+    pub(crate) fn swap(&mut self, group: &Group) -> Result<(), Try<Refusal>>
+        requires { IsComposed self.old }
+        ensures value { TryGives (λ _. state_view self.new) result (swap_of (state_view self.old) group.now) }
+        ensures composed { OnOk result (IsComposed self.new) }
+    {
+        match self.level.last().swap_last() {
+            Ok(()) => Ok(()),
+            Err(fault) => Err(Try::Fault(refused(group.place, fault))),
+        }
+    }
+
+    /// The last n entries as one clip of a new unit.
+    fn joined(&mut self, group: &Group, n: u32) -> Result<(), Try<Refusal>>
+        requires composed { IsComposed self.old }
+        requires some { 1 ≤ n }
+        ensures value { TryGives (λ _. state_view self.new) result (joined_of (state_view self.old) group.now n) }
+        ensures composed { OnOk result (IsComposed self.new) }
+    {
+        let n = n as usize;
+        let unit = self.graph.next_id();
+        let list = self.level.last();
+        let at = list.count().saturating_sub(n);
+        let entries = edited(group.place, list.join(at, n, unit))?;
+        match self.graph.add_list(entries) {
+            Ok(_) => Ok(()),
+            Err(_) => Err(Try::Memory),
+        }
+    }
+
+    /// Joins the last entries.
+    #[tactic(auto, unfolding(mlt_tree::specs::Composition::join))]
+    pub(crate) fn join(&mut self, group: &Group) -> Result<(), Try<Refusal>>
+        requires { IsComposed self.old }
+        ensures value { TryGives (λ _. state_view self.new) result (join_of (state_view self.old) group.now) }
+        ensures composed { OnOk result (IsComposed self.new) }
+    {
+        match counted(1, 100000, group.arg.as_str()) {
+            Ok(n) => self.joined(group, n),
+            Err(cause) => Err(Try::Fault(refusal_at(group.place, cause))),
+        }
+    }
+}
+
+/// There is no entry.
+fn no_entry(place: u32) -> Refusal
+    ensures { result ≡ refusal_of place (Cause.TooFew 1 0) }
+{
+    refusal_at(place, Cause::TooFew { asked: 1, there: 0 })
+}

@@ -1,0 +1,8 @@
+-- Steps that may be refused, one after another.
+use Rattle.std.specs.Prelude.{Result, Ok, Err}
+
+-- a step that passes its fault on
+infixl 10 ◌>>=◌
+abbrev pub ◌>>=◌ : {E A B : Type 0} → Result A E → (A → Result B E) → Result B E
+(Ok x) >>= f = f x
+(Err e) >>= f = Err e

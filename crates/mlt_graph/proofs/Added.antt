@@ -1,0 +1,86 @@
+-- A unit is put behind the others of a graph.
+use Rattle.std.proofs.Common.{◌≡◌, ℕ, ◌+◌, ◌<◌, ◌≤◌, ◌^◌, ◌⊎◌, inl, inr, List, [], ◌∷◌, ◌++◌, length, get_or, sym, ◌∙◌, subst, arith, length-append}
+use Rattle.std.proofs.lemmas.Bool.{cases_lt}
+use Rattle.std.proofs.lemmas.List.{get_or_append_left, get_or_push}
+use Rattle.std.proofs.lemmas.List.Elements.{All-nil, All-push}
+use Rattle.std.specs.List.{All}
+use Rattle.mlt_tree.specs.declared.entry.Entry.{Entry}
+use Rattle.mlt_tree.specs.declared.node.Body.{Body}
+use Rattle.mlt_tree.specs.declared.node.Body.TheVariants.{Entries}
+use Rattle.mlt_tree.specs.declared.node.Node.{Node}
+use Rattle.mlt_tree.specs.Edits.{frames_in}
+use Rattle.mlt_tree.specs.Ranges.{IsAttached}
+use Rattle.mlt_tree.specs.Tree.{Tree}
+use Rattle.mlt_tree.specs.Units.{node_tree, tree_of, body_depth, depth_of, IsEntryBelow, IsBodyBelow, IsGraph}
+use Rattle.mlt_graph.specs.Graph.{list_unit, HasLength, HasFewTracks, IsSized}
+use Rattle.mlt_graph.specs.Sizes.{nothing, size_of, entries_size, list_size}
+use Rattle.mlt_graph.specs.declared.size.Size.{Size}
+use Rattle.mlt_graph.proofs.SizeLemmas.{len_in-frames, list_size-is}
+use Rattle.mlt_graph.proofs.Trees.{tree_of-append, tree_of-new, depth_of-append, depth_of-new}
+
+-- a unit with no filter
+abbrev unit_of : Body → Node
+unit_of body = record { body = body; filters = [] }
+
+-- what holds of the older units and of the new one holds of all
+each-push : {X : Type 0} (P : ℕ → X → Type 0) (xs : List X) (x : X) → ((k : ℕ) (y : X) → k < length xs → y ≡ get_or xs k y → P k y) → P (length xs) x
+    → (k : ℕ) (y : X) → k < length (xs ++ x ∷ []) → y ≡ get_or (xs ++ x ∷ []) k y → P k y
+each-push P xs x old new k y within at = by (cases_lt k (length xs))
+  where
+    by : (k < length xs) ⊎ (length xs ≤ k) → P k y
+    by (inl below) = old k y below (at ∙ get_or_append_left xs (x ∷ []) y k below)
+    by (inr above) =
+        let last : length xs ≡ k = omega (arith, length-append xs (x ∷ [])) in
+        let is : x ≡ y = sym (at ∙ get_or_push xs x y k last) in
+        subst (P k) is (subst (λ (n : ℕ). P n x) last new)
+
+-- units that refer to lower-numbered ones do so with one more of them
+pub graph-push : (us : List Node) (u : Node) → IsGraph us → IsBodyBelow (length us) u.body → All IsAttached u.filters → IsGraph (us ++ u ∷ [])
+graph-push us u graph below filters = record {
+  bodies = each-push (λ k u. IsBodyBelow k u.body) us u graph.bodies below;
+  filters = each-push (λ k u. All IsAttached u.filters) us u graph.filters filters;
+}
+
+module _ (us : List Node) (sizes : List Size) (body : Body) (size : Size) (sized : IsSized us sizes) (more : length us + 1 < 2 ^ 32)
+    (below : IsBodyBelow (length us) body) (tracks : HasFewTracks body) (frames : HasLength (node_tree (tree_of us) (unit_of body)))
+    (size_is : size ≡ size_of (node_tree (tree_of us) (unit_of body)) (body_depth (depth_of us) body)) where
+  -- the tree and the depth of a unit once the new one is there
+  long : length (us ++ unit_of body ∷ []) ≡ length us + 1
+  long = length-append us (unit_of body ∷ [])
+
+  all_units : (P : Tree → ℕ → ℕ → Type 0) → ((k : ℕ) → k < length us → P (tree_of us k) (depth_of us k) k)
+      → P (node_tree (tree_of us) (unit_of body)) (body_depth (depth_of us) body) (length us)
+      → (k : ℕ) → k < length us + 1 → P (tree_of (us ++ unit_of body ∷ []) k) (depth_of (us ++ unit_of body ∷ []) k) k
+  all_units P old new k within = by (cases_lt k (length us))
+    where
+      by : (k < length us) ⊎ (length us ≤ k) → P (tree_of (us ++ unit_of body ∷ []) k) (depth_of (us ++ unit_of body ∷ []) k) k
+      by (inl older) = rw (tree_of-append us (unit_of body ∷ []) k older, depth_of-append us (unit_of body ∷ []) k older) (old k older)
+      by (inr above) =
+          let last : length us ≡ k = omega arith in
+          subst (λ (n : ℕ). P (tree_of (us ++ unit_of body ∷ []) n) (depth_of (us ++ unit_of body ∷ []) n) n) last
+          (rw (tree_of-new us (unit_of body), depth_of-new us (unit_of body)) new)
+
+  pub sized-push : IsSized (us ++ unit_of body ∷ []) (sizes ++ size ∷ [])
+  sized-push = record {
+    graph = graph-push us (unit_of body) sized.graph below (All-nil IsAttached);
+    few = omega (arith, long, more);
+    long = omega (arith, long, sized.long, length-append sizes (size ∷ []));
+    told = record {
+      each = λ k within. all_units (λ t d k. get_or (sizes ++ size ∷ []) k nothing ≡ size_of t d)
+          (λ k older. get_or_append_left sizes (size ∷ []) nothing k (omega (arith, sized.long)) ∙ sized.told.each k (omega (arith, sized.long)))
+          (get_or_push sizes size nothing (length us) sized.long ∙ size_is) k (omega (arith, sized.long, length-append sizes (size ∷ [])));
+    };
+    lengths = λ k within. all_units (λ t d k. HasLength t) sized.lengths frames k (omega (arith, long));
+    tracks = All-push (λ u. HasFewTracks u.body) us (unit_of body) sized.tracks tracks;
+  }
+
+-- the unit of a list has as many frames as its entries
+pub list_unit-length : (units : ℕ → Tree) (es : List Entry) → 1 ≤ frames_in es → frames_in es < 2 ^ 31 → HasLength (node_tree units (list_unit es))
+list_unit-length units es some short =
+    record { some = omega (arith, len_in-frames units es); short = omega (arith, len_in-frames units es) }
+
+-- and the size that is made up of its entries
+pub list_unit-size : (us : List Node) (sizes : List Size) (es : List Entry) → IsSized us sizes → All (IsEntryBelow (length us)) es
+    → list_size (entries_size sizes es) ≡ size_of (node_tree (tree_of us) (list_unit es)) (body_depth (depth_of us) (Entries es))
+list_unit-size us sizes es sized below =
+    list_size-is sizes (tree_of us) (depth_of us) sized.told es (subst (λ (n : ℕ). All (IsEntryBelow n) es) (sym sized.long) below)

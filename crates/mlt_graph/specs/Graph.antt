@@ -1,0 +1,40 @@
+-- The units of a graph, and what holds of them and of the table of their sizes.
+use Rattle.std.specs.Prelude.{◌≡◌, ◌≤◌, ◌<◌, ◌^◌, ℕ, List, [], length, All}
+use Rattle.mlt_base.specs.declared.profile.SourceNo.{SourceNo}
+use Rattle.mlt_tree.specs.declared.entry.Entry.{Entry}
+use Rattle.mlt_tree.specs.declared.node.Body.{Body}
+use Rattle.mlt_tree.specs.declared.node.Body.TheVariants.{Source, Entries, Tractor}
+use Rattle.mlt_tree.specs.declared.node.Node.{Node}
+use Rattle.mlt_tree.specs.declared.tree.SourceKind.{SourceKind}
+use Rattle.mlt_tree.specs.Tree.{Tree, len}
+use Rattle.mlt_tree.specs.Units.{tree_of, depth_of, IsGraph}
+use Rattle.mlt_graph.specs.declared.size.Size.{Size}
+use Rattle.mlt_graph.specs.Sizes.{Tells}
+
+-- the unit of a source
+abbrev pub source_unit : SourceNo → SourceKind → (frames : ℕ) → Node
+source_unit source kind frames = record { body = Source source kind frames; filters = [] }
+
+-- the unit of entries, one after another
+abbrev pub list_unit : List Entry → Node
+list_unit entries = record { body = Entries entries; filters = [] }
+
+-- a unit has a frame, and fewer than 2^31 of them
+pub record HasLength (tree : Tree) : Type 0 where
+  pub some : 1 ≤ len tree
+  pub short : len tree < 2 ^ 31
+
+-- a tractor has at most 256 tracks
+abbrev pub HasFewTracks : Body → Type 0
+HasFewTracks (Source source kind frames) = Unit {0}
+HasFewTracks (Entries entries) = Unit {0}
+HasFewTracks (Tractor tracks plants) = length tracks ≤ 256
+
+-- units of a graph, with the table of their sizes
+pub record IsSized (nodes : List Node) (sizes : List Size) : Type 0 where
+  pub graph : IsGraph nodes
+  pub few : length nodes < 2 ^ 32
+  pub long : length sizes ≡ length nodes
+  pub told : Tells sizes (tree_of nodes) (depth_of nodes)
+  pub lengths : (unit : ℕ) → unit < length nodes → HasLength (tree_of nodes unit)
+  pub tracks : All (λ node. HasFewTracks node.body) nodes

@@ -1,0 +1,31 @@
+-- What is played: units, and which of them.
+use Rattle.std.specs.Prelude.{◌≡◌, ◌≤◌, ◌<◌, ◌^◌, ℕ, List, length}
+use Rattle.mlt_tree.specs.declared.node.Node.{Node}
+use Rattle.mlt_tree.specs.Tree.{Tree, len, need, weight, ops}
+use Rattle.mlt_tree.specs.Units.{tree_of, depth_of, IsGraph}
+
+pub record Shown : Type 0 where
+  pub units : List Node
+  pub top : ℕ
+
+-- the tree that it stands for
+abbrev pub tree : Shown → Tree
+tree shown = tree_of shown.units shown.top
+
+-- it stands for a tree, since units refer to lower-numbered ones, and the one that is played is there
+pub record IsSealed (shown : Shown) : Type 0 where
+  pub graph : IsGraph shown.units
+  pub top : shown.top < length shown.units
+
+-- what else holds of it, with the numbers that are kept of it
+pub record IsKept (shown : Shown) (count buffers operations : ℕ) : Type 0 where
+  pub is : IsSealed shown
+  pub depth : depth_of shown.units shown.top ≤ 16
+  pub weight : weight (tree shown) ≤ 65536
+  pub length : count ≡ len (tree shown)
+  pub some : 1 ≤ count
+  pub short : count < 2 ^ 31
+  pub need : buffers ≡ need (tree shown)
+  pub few_buffers : buffers ≤ 4369
+  pub ops : operations ≡ ops (tree shown)
+  pub few_ops : operations ≤ 131072

@@ -1,0 +1,46 @@
+-- What a show means.
+use Rattle.std.specs.Prelude.{List}
+use Rattle.mlt_base.specs.declared.profile.Profile.{Profile}
+use Rattle.mlt_base.specs.declared.profile.Rate.{Rate}
+use Rattle.mlt_tree.specs.Show as meaning
+use Rattle.mlt_tree.specs.Composition.{Frames}
+use Rattle.mlt_graph.specs.declared.show.Output.{Output}
+use Rattle.mlt_graph.specs.declared.show.Pix.{Pix}
+use Rattle.mlt_graph.specs.declared.show.Pix.TheVariants.{Rgb, Rgba}
+use Rattle.mlt_graph.specs.declared.show.Show.{Show}
+use Rattle.mlt_graph.specs.Sealed.{tree}
+
+abbrev pub fraction : Rate → meaning.Fraction
+fraction rate = record { num = rate.num; den = rate.den }
+
+abbrev pub profile_view : Profile → Frames
+profile_view profile = record {
+  size = record { width = profile.width; height = profile.height };
+  rate = fraction profile.rate;
+}
+
+abbrev pub pix_of : Pix → meaning.Pix
+pix_of Rgb = meaning.Rgb
+pix_of Rgba = meaning.Rgba
+
+abbrev pub output_view : Output → meaning.Settings
+output_view output = record {
+  video = output.video;
+  pix = pix_of output.pix;
+  first = output.first.0;
+  last = output.last.0;
+  workers = output.workers;
+  buffer = output.buffer;
+  slices = output.slices;
+  cache = output.cache;
+}
+
+-- a show with its sources
+abbrev pub meant : Show → List meaning.Source → meaning.Show
+meant show sources = record {
+  size = (profile_view show.profile).size;
+  rate = (profile_view show.profile).rate;
+  sources = sources;
+  tree = tree show.sealed;
+  output = output_view show.output;
+}

@@ -1,0 +1,176 @@
+//! Units that refer to each other.
+
+ghost use Rattle.std.specs.Prelude.{◌≡◌, ◌≤◌, ◌<◌, ◌^◌, ◌⊎◌, ◌↔◌, [], ◌∷◌, ◌++◌, length, All, Err, IfOk, IfErr, OnOk, OnErr};
+ghost use Rattle.mlt_tree.specs.Edits.{frames_in};
+ghost use Rattle.mlt_tree.specs.Tree.{len};
+ghost use Rattle.mlt_tree.specs.Units.{node_tree, tractor_of, tree_of, body_depth, depth_of, IsEntryBelow, AreEntriesBelow, IsBodyBelow};
+ghost use Rattle.mlt_graph.specs.declared.fault.GraphFault.TheVariants.{NoProducer, Memory};
+ghost use Rattle.mlt_graph.specs.Graph.{source_unit, list_unit, HasLength, HasFewTracks};
+ghost use Rattle.mlt_graph.specs.Seal.{seal};
+ghost use Rattle.mlt_graph.specs.Sizes.{size_of};
+
+use crate::fault::GraphFault;
+use crate::level::Level;
+use crate::sealed::Sealed;
+use crate::size::Size;
+use mlt_base::{SourceNo, UnitId};
+use mlt_playlist::EntryList;
+use mlt_tree::{Body, FilterList, ItemList, Node, SourceKind};
+use std::alloc::{AllocError, Global};
+use std::marker::Model;
+
+/// How deep a unit may be nested that is sealed.
+const MOST_DEPTH: u32 = 16;
+
+/// How much weight a unit may have that is sealed.
+const MOST_WEIGHT: u32 = 65_536;
+
+/// Units, each of which refers to lower-numbered ones alone. Contracts see a graph as their list.
+///
+/// Each unit has 1 to 2^31 - 1 frames. A graph has fewer than 2^32 units, and a call that would make it
+/// more answers want of memory.
+#[derive(Drop)]
+pub struct Graph {
+    nodes: Vec<Node>,
+    // the size of each unit, so that none is walked again
+    sizes: Vec<Size>,
+}
+
+impl Model for Graph {
+    ghost use Rattle.std.specs.Prelude.{List};
+    ghost use Rattle.mlt_tree.specs.declared.node.Node.{Node};
+    ghost use Rattle.mlt_graph.specs.Graph.{IsSized};
+
+    ghost Value = { List Node };
+
+    ghost view = { λ g. g.nodes.items };
+
+    ghost invariant = { λ g. IsSized g.nodes.items g.sizes.items };
+}
+
+impl Graph {
+    /// A graph with no unit. It takes no memory.
+    pub fn new(alloc: Global) -> Graph
+        ensures { result ≡ [] }
+    {
+        Graph {
+            nodes: Vec::new(alloc),
+            sizes: Vec::new(alloc),
+        }
+    }
+
+    /// The number of the unit that is added next.
+    pub fn next_id(&self) -> UnitId
+        ensures { result.0 ≡ length self.now }
+    {
+        UnitId(self.nodes.len() as u32)
+    }
+
+    /// How many frames a unit has.
+    pub fn length_of(&self, unit: UnitId) -> u32
+        requires { unit.0 < length self.now }
+        ensures value { result ≡ len (tree_of self.now unit.0) }
+        ensures some { 1 ≤ result }
+        ensures short { result < 2 ^ 31 }
+    {
+        self.sizes[unit.0 as usize].length
+    }
+
+    /// Adds the unit of a source of so many frames. After want of memory the graph is as it was.
+    pub fn add_source(
+        &mut self,
+        no: SourceNo,
+        kind: SourceKind,
+        frames: u32,
+    ) -> Result<UnitId, AllocError>
+        requires some { 1 ≤ frames }
+        requires short { frames < 2 ^ 31 }
+        ensures ok { OnOk result (self.new ≡ self.old ++ source_unit no kind frames ∷ []) }
+        ensures id { IfOk result (λ id. id.0 ≡ length self.old) }
+        ensures err { OnErr result (self.new ≡ self.old) }
+    {
+        self.add(Body::Source { no, kind, frames }, Size::plain(frames))
+    }
+
+    /// Adds the unit of these entries, one after another. After want of memory the graph is as it was.
+    pub fn add_list(&mut self, entries: EntryList) -> Result<UnitId, AllocError>
+        requires below { AreEntriesBelow (length self.old) entries }
+        requires some { 1 ≤ frames_in entries }
+        requires short { frames_in entries < 2 ^ 31 }
+        ensures ok { OnOk result (self.new ≡ self.old ++ list_unit entries ∷ []) }
+        ensures id { IfOk result (λ id. id.0 ≡ length self.old) }
+        ensures err { OnErr result (self.new ≡ self.old) }
+    {
+        let size = Size::of_entries(&self.sizes, entries.as_slice()).list();
+        self.add(Body::Entries { entries }, size)
+    }
+
+    /// Adds the tractor of a level's tracks, which drops the level where it is refused. After a refusal
+    /// the graph is as it was.
+    ///
+    /// `NoProducer` comes where no track has a frame, else `Memory` may.
+    pub fn add_tractor(&mut self, level: Level) -> Result<UnitId, GraphFault>
+        requires { All (λ track. All (IsEntryBelow (length self.old)) track.entries) level }
+        ensures ok { OnOk result (self.new ≡ self.old ++ tractor_of level ∷ []) }
+        ensures id { IfOk result (λ id. id.0 ≡ length self.old) }
+        ensures err { OnErr result (self.new ≡ self.old) }
+        ensures empty { (result ≡ Err NoProducer) ↔ (len (node_tree (tree_of self.old) (tractor_of level)) ≡ 0) }
+        ensures fault { IfErr result (λ fault. (fault ≡ NoProducer) ⊎ (fault ≡ Memory)) }
+    {
+        let count = level.tracks();
+        let size = level.size(&self.sizes);
+        if size.length == 0 {
+            return Err(GraphFault::NoProducer);
+        }
+        let alloc = *self.nodes.allocator();
+        let Ok(tracks) = level.into_tracks(alloc) else {
+            return Err(GraphFault::Memory);
+        };
+        let plants = ItemList::new(alloc);
+        match self.add(Body::Tractor { tracks, plants }, size.tractor(count)) {
+            Ok(id) => Ok(id),
+            Err(_) => Err(GraphFault::Memory),
+        }
+    }
+
+    /// Ends the graph: `top` is what is played. It takes no memory.
+    ///
+    /// `TooDeep` comes where `top` is nested deeper than 16, and then `TooMany` where its weight is above
+    /// 65,536; the graph is dropped.
+    pub fn seal(self, top: UnitId) -> Result<Sealed, GraphFault>
+        requires { top.0 < length self }
+        ensures { result ≡ seal self top.0 }
+    {
+        let Graph { nodes, sizes } = self;
+        let size = sizes[top.0 as usize];
+        if size.depth > MOST_DEPTH {
+            return Err(GraphFault::TooDeep { depth: size.depth });
+        }
+        if size.weight > MOST_WEIGHT {
+            return Err(GraphFault::TooMany { limit: MOST_WEIGHT });
+        }
+        Ok(Sealed::new(nodes, top, size.length, size.need, size.ops))
+    }
+
+    // Puts a unit with no filter behind the others.
+    fn add(&mut self, body: Body, size: Size) -> Result<UnitId, AllocError>
+        requires below { IsBodyBelow (length self.old) body }
+        requires tracks { HasFewTracks body }
+        requires frames { HasLength (node_tree (tree_of self.old) (record { body = body; filters = [] })) }
+        requires size { size ≡ size_of (node_tree (tree_of self.old) (record { body = body; filters = [] })) (body_depth (depth_of self.old) body) }
+        ensures ok { OnOk result (self.new ≡ self.old ++ record { body = body; filters = [] } ∷ []) }
+        ensures id { IfOk result (λ id. id.0 ≡ length self.old) }
+        ensures err { OnErr result (self.new ≡ self.old) }
+    {
+        let id = self.next_id();
+        if id.0 == u32::MAX {
+            return Err(AllocError);
+        }
+        let filters = FilterList::new(*self.nodes.allocator());
+        // both grow, or neither does
+        self.sizes.reserve(1)?;
+        self.nodes.push(Node { body, filters })?;
+        self.sizes.push(size)?;
+        Ok(id)
+    }
+}

@@ -1,0 +1,164 @@
+//! A graph as its caller sees it.
+
+ghost use Rattle.std.specs.Prelude.{◌≡◌, ◌≤◌, ◌<◌, ◌^◌, ℕ, length, All, IfOk};
+ghost use Rattle.mlt_base.specs.Span.{IsSpan};
+ghost use Rattle.mlt_tree.specs.Edits.{frames_in};
+ghost use Rattle.mlt_tree.specs.Ranges.{IsAttached};
+ghost use Rattle.mlt_tree.specs.Units.{IsEntryBelow, AreEntriesBelow};
+
+use crate::{Format, Graph, GraphFault, Level, Output, Pix};
+use mlt_base::{Pos, Profile, Rate, SourceNo, Span, Text, UnitId};
+use mlt_playlist::EntryList;
+use mlt_tree::{Attached, Entry, FilterList, FilterSpec, ItemList, SourceKind};
+use std::alloc::{AllocError, Global};
+use std::test::Fail;
+
+/// What was answered of a graph.
+#[derive(Drop)]
+struct Told {
+    empty: Result<UnitId, GraphFault>,
+    lengths: (u32, u32, u32),
+    sealed: Result<(u32, u32, u32), GraphFault>,
+}
+
+/// A filter that inverts the colours of these frames.
+fn invert(alloc: Global, span: Span) -> Result<FilterList, AllocError>
+    requires { IsSpan span }
+    ensures { IfOk result (λ filters. All IsAttached filters) }
+{
+    let mut filters = ItemList::new(alloc);
+    let filter = Attached {
+        spec: FilterSpec::Invert,
+        span,
+    };
+    match filters.push(filter) {
+        Ok(()) => Ok(filters),
+        Err(_) => Err(AllocError),
+    }
+}
+
+/// The first frames of a unit, with their colours inverted.
+fn clip_of(alloc: Global, unit: UnitId, frames: u32) -> Result<EntryList, AllocError>
+    requires { 1 ≤ frames }
+    ensures below { IfOk result (λ list. (count : ℕ) → unit.0 < count → AreEntriesBelow count list) }
+    ensures frames { IfOk result (λ list. frames_in list ≡ frames) }
+{
+    let span = Span {
+        first: Pos(0),
+        last: Pos(frames - 1),
+    };
+    let filters = invert(alloc, span)?;
+    let mut list = ItemList::new(alloc);
+    let clip = Entry::Clip {
+        unit,
+        span,
+        filters,
+    };
+    match list.push(clip) {
+        Ok(()) => Ok(list),
+        Err(_) => Err(AllocError),
+    }
+}
+
+/// A track of the first frames of a unit, or with no entry where none are asked for.
+fn level_of(alloc: Global, unit: UnitId, frames: u32) -> Result<Level, AllocError>
+    ensures { IfOk result (λ level. (count : ℕ) → unit.0 < count → All (λ track. All (IsEntryBelow count) track.entries) level) }
+{
+    let mut level = Level::new(alloc)?;
+    if frames > 0 {
+        let added = level.last().append_io(unit, frames, 0, frames - 1);
+        if added.is_err() {
+            return Err(AllocError);
+        }
+    }
+    Ok(level)
+}
+
+/// Lists around a unit, so many, each of the one before it.
+fn nest(graph: &mut Graph, alloc: Global, unit: UnitId, count: u32) -> Result<UnitId, AllocError>
+    requires { unit.0 < length graph.old }
+    ensures { IfOk result (λ id. id.0 < length graph.new) }
+{
+    let mut unit = unit;
+    for _list in 0..count {
+        unit = graph.add_list(clip_of(alloc, unit, 2)?)?;
+    }
+    Ok(unit)
+}
+
+/// A tractor of a source of three frames in so many lists.
+fn tell(alloc: Global, lists: u32) -> Result<Told, AllocError> {
+    let mut graph = Graph::new(alloc);
+    let source = graph.add_source(SourceNo(0), SourceKind::Colour, 3)?;
+    let empty = graph.add_tractor(level_of(alloc, source, 0)?);
+    let list = nest(&mut graph, alloc, source, lists)?;
+    let tractor = match graph.add_tractor(level_of(alloc, list, 1)?) {
+        Ok(tractor) => tractor,
+        Err(_) => return Err(AllocError),
+    };
+    let lengths = (
+        graph.length_of(source),
+        graph.length_of(list),
+        graph.length_of(tractor),
+    );
+    let sealed = match graph.seal(tractor) {
+        Ok(sealed) => Ok((sealed.length(), sealed.need(), sealed.ops())),
+        Err(fault) => Err(fault),
+    };
+    Ok(Told {
+        empty,
+        lengths,
+        sealed,
+    })
+}
+
+#[test]
+fn seals_lists_in_a_tractor(rt: HostRuntime) -> Result<(), Fail> {
+    let two = tell(rt.alloc(), 2)?;
+    assert_eq!(rt; two.empty, Err(GraphFault::NoProducer));
+    assert_eq!(rt; two.lengths, (3, 2, 1));
+    assert_eq!(rt; two.sealed, Ok((1, 2, 3)));
+    Ok(())
+}
+
+#[test]
+fn seals_sixteen_deep_at_most(rt: HostRuntime) -> Result<(), Fail> {
+    assert_eq!(rt; tell(rt.alloc(), 15)?.sealed, Ok((1, 2, 16)));
+    assert_eq!(rt;
+        tell(rt.alloc(), 16)?.sealed,
+        Err(GraphFault::TooDeep { depth: 17 })
+    );
+    Ok(())
+}
+
+/// The output of one frame with two channels.
+fn output_of(alloc: Global, pix: Pix, format: Format) -> Result<Output, AllocError> {
+    Ok(Output {
+        video: Text::new(alloc, "-")?,
+        audio: None,
+        pix,
+        first: Pos(0),
+        last: Pos(0),
+        workers: 0,
+        buffer: 25,
+        slices: 1,
+        cache: 4,
+        channels: 2,
+        format,
+    })
+}
+
+#[test]
+fn has_room_for_a_frame(rt: HostRuntime) -> Result<(), Fail> {
+    let rate = Rate { num: 25, den: 1 };
+    let profile = Profile {
+        width: 720,
+        height: 576,
+        rate,
+    };
+    let short = output_of(rt.alloc(), Pix::Rgb, Format::S16)?;
+    let long = output_of(rt.alloc(), Pix::Rgba, Format::S32)?;
+    assert_eq!(rt; short.piece(&profile), 1_244_160 + 7_680);
+    assert_eq!(rt; long.piece(&profile), 1_658_880 + 15_360);
+    Ok(())
+}

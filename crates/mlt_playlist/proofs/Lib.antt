@@ -1,0 +1,14 @@
+pub mod Changes
+pub mod Counts
+pub mod CutOut
+pub mod Found
+pub mod Frames
+pub mod Joined
+pub mod Merging
+pub mod Mixes
+pub mod Moves
+pub mod Overlaps
+pub mod Place
+pub mod Repeated
+pub mod Sizes
+pub mod Splits

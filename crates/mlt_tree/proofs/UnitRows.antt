@@ -1,0 +1,38 @@
+-- Units and their trees, tried on small compositions: each line is checked by computing both of its sides.
+use Rattle.std.specs.Prelude.{ℕ, ◌≡◌, refl, false, List, [], ◌∷◌, Option, None, Some}
+use Rattle.mlt_tree.specs.declared.entry.Entry.TheVariants.{Gap}
+use Rattle.mlt_tree.specs.declared.node.Node.{Node}
+use Rattle.mlt_tree.specs.Composition.{source_unit, list_unit}
+use Rattle.mlt_tree.specs.Edits.{clip}
+use Rattle.mlt_tree.specs.Tree.{Tree, Pictures, mean, numbers, needs, len, need, weight, ops}
+use Rattle.mlt_tree.specs.Units.{tree_of, depth_of, tractor_of}
+
+-- the number of the source that is seen
+abbrev seen : Tree → ℕ → Option ℕ
+seen t n = mean Pictures numbers t n
+
+-- a frame of one colour, two with nothing, a frame of another
+abbrev apart : List Node
+apart =
+    source_unit 0 15000 ∷ source_unit 1 15000 ∷ tractor_of (record { entries = clip 0 0 0 [] ∷ Gap 2 ∷ clip 1 0 0 [] ∷ []; hide = record { video = false; audio = false } } ∷ []) ∷ []
+
+apart_length : len (tree_of apart 2) ≡ 4
+apart_length = refl
+
+apart_seen : (seen (tree_of apart 2) 0 ∷ seen (tree_of apart 2) 1 ∷ seen (tree_of apart 2) 3 ∷ seen (tree_of apart 2) 4 ∷ []) ≡ (Some 0 ∷ None ∷ Some 1 ∷ None ∷ [])
+apart_seen = refl
+
+apart_needs : (needs (tree_of apart 2) 0 ∷ needs (tree_of apart 2) 1 ∷ needs (tree_of apart 2) 3 ∷ []) ≡ ((0 ∷ []) ∷ [] ∷ (1 ∷ []) ∷ [])
+apart_needs = refl
+
+-- both colours joined, and the joined clip twice: its unit has a number of its own
+abbrev twice : List Node
+twice =
+    source_unit 0 15000 ∷ source_unit 1 15000 ∷ list_unit (clip 0 0 0 [] ∷ clip 1 0 0 [] ∷ []) ∷ tractor_of (record { entries = clip 2 0 1 [] ∷ clip 2 0 1 [] ∷ []; hide = record { video = false; audio = false } } ∷ []) ∷ []
+
+twice_seen : (seen (tree_of twice 3) 0 ∷ seen (tree_of twice 3) 1 ∷ seen (tree_of twice 3) 2 ∷ seen (tree_of twice 3) 3 ∷ []) ≡ (Some 0 ∷ Some 1 ∷ Some 0 ∷ Some 1 ∷ [])
+twice_seen = refl
+
+-- the sources are at depth 0, the list at 1, the tractor at 2; one row and what is under it take two buffers
+twice_sizes : (depth_of twice 1 ∷ depth_of twice 2 ∷ depth_of twice 3 ∷ need (tree_of twice 3) ∷ weight (tree_of twice 3) ∷ ops (tree_of twice 3) ∷ []) ≡ (0 ∷ 1 ∷ 2 ∷ 2 ∷ 1 ∷ 1 ∷ [])
+twice_sizes = refl

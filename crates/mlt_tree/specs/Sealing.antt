@@ -1,0 +1,123 @@
+-- The end of a composition: its tree, whether there is something to play, and not too much of it.
+use Rattle.std.specs.Prelude.{ℕ, ◌+◌, ◌-◌, ◌*◌, ◌^◌, false, nat_le, nat_eq, max, if◌then◌else◌, List, [], ◌∷◌, ◌++◌, length, None, unwrap_or, Result, Ok, codes}
+use Rattle.mlt_base.specs.Samples.{most_samples}
+use Rattle.mlt_base.specs.Steps.{◌>>=◌}
+use Rattle.mlt_tree.specs.declared.group.Group.{Group}
+use Rattle.mlt_tree.specs.declared.node.Node.{Node}
+use Rattle.mlt_tree.specs.declared.refusal.Cause.TheVariants as cause
+use Rattle.mlt_tree.specs.declared.refusal.Refusal.{Refusal}
+use Rattle.mlt_tree.specs.Composition.{Frames, Consumer, State, Cut, start, cut_of, effect, profile_step, default_frames}
+use Rattle.mlt_tree.specs.Refusing.{refuse, over}
+use Rattle.mlt_tree.specs.Show.{Show, Settings, Source, Rgb, pixels_of}
+use Rattle.mlt_tree.specs.Tree.{Tree, len, need, weight}
+use Rattle.mlt_tree.specs.Unbuilt.{built_step}
+use Rattle.mlt_tree.specs.Units.{Draft, tree_of, depth_of, tractor_of}
+
+-- the one track, which hides nothing
+abbrev pub draft_of : State → Draft
+draft_of s = record { entries = s.track; hide = record { video = false; audio = false } }
+
+-- the units of a whole composition: the last one is the tractor
+abbrev pub all_units : State → List Node
+all_units s = s.units ++ tractor_of (draft_of s ∷ []) ∷ []
+
+abbrev pub whole_tree : State → Tree
+whole_tree s = tree_of (all_units s) (length s.units)
+
+-- `raw:-` with the defaults, where no consumer stands
+abbrev pub default_consumer : Consumer
+default_consumer = record {
+  place = 0;
+  video = codes "-";
+  pix = Rgb;
+  workers = 0;
+  buffer = 25;
+  slices = 1;
+  cache = 4;
+  first = None;
+  last = None;
+}
+
+-- the bytes of one picture or of one pair's sound in a frame, whichever is more
+abbrev pub unit_of : Frames → ℕ
+unit_of frames = max (pixels_of frames.size * 4) (4 * most_samples frames.rate.num frames.rate.den)
+
+-- the bytes that a run holds at most
+abbrev pub bytes_of : Frames → Consumer → ℕ → ℕ
+bytes_of frames c need = unit_of frames * (c.buffer + (c.workers + 1) * need + c.cache)
+
+abbrev pub settings_of : Consumer → Cut → Settings
+settings_of c range = record {
+  video = c.video;
+  pix = c.pix;
+  first = range.first;
+  last = range.last;
+  workers = c.workers;
+  buffer = c.buffer;
+  slices = c.slices;
+  cache = c.cache;
+}
+
+-- the positions that are written: in the consumer's place, from its first to its last
+abbrev pub range_of : Consumer → ℕ → Result Cut Refusal
+range_of c length = cut_of c.place length (unwrap_or c.first 0) c.last
+
+abbrev pub few_frames : ℕ → Cut → Result Cut Refusal
+few_frames count range =
+    let frames = range.last + 1 - range.first in
+    if nat_le frames 1000000 then Ok range else refuse count (cause.TooLong frames)
+
+abbrev pub few_bytes : ℕ → ℕ → Cut → Result Cut Refusal
+few_bytes count bytes range = if nat_le bytes (2 ^ 31) then Ok range else refuse count (cause.TooLarge bytes)
+
+-- something is played
+abbrev pub some_frames : ℕ → Tree → Result (Unit {0}) Refusal
+some_frames count t = if nat_eq (len t) 0 then refuse count cause.NoProducer else Ok tt
+
+abbrev pub not_deep : ℕ → (depth : ℕ) → Result (Unit {0}) Refusal
+not_deep count depth = if nat_le depth 16 then Ok tt else refuse count (cause.TooDeep depth)
+
+abbrev pub not_heavy : ℕ → Tree → Result (Unit {0}) Refusal
+not_heavy count t = if nat_le (weight t) 65536 then Ok tt else refuse count (cause.TooMany 65536)
+
+-- a tree on the positions that the consumer writes
+abbrev pub show_on : Frames → Consumer → List Source → Tree → Cut → Show
+show_on frames c sources t range =
+    record { size = frames.size; rate = frames.rate; sources = sources; tree = t; output = settings_of c range }
+
+-- what is written of a tree: a range within it, not too many frames, not too many bytes
+unfoldable pub ranged : ℕ → Frames → Consumer → Tree → Result Cut Refusal
+ranged count frames c t = do
+  range ← range_of c (len t)
+  short ← few_frames count range
+  few_bytes count (bytes_of frames c (need t)) short
+
+-- a unit with frames, not nested too deep, not too heavy
+unfoldable pub sealable : ℕ → List Node → (top : ℕ) → Result (Unit {0}) Refusal
+sealable count units top = do
+  some ← some_frames count (tree_of units top)
+  shallow ← not_deep count (depth_of units top)
+  not_heavy count (tree_of units top)
+
+-- a tree at the end of so many words, on the positions that the consumer writes
+unfoldable pub shown : ℕ → State → Tree → Result Show Refusal
+shown count s t = do
+  range ← ranged count s.frames (unwrap_or s.consumer default_consumer) t
+  Ok (show_on s.frames (unwrap_or s.consumer default_consumer) s.sources t range)
+
+-- at the end of so many words
+unfoldable pub seal : ℕ → State → Result Show Refusal
+seal count s = do
+  whole ← sealable count (all_units s) (length s.units)
+  shown count s (whole_tree s)
+
+-- what is not built first, then the profile, then the groups in word order
+unfoldable pub composed : List Group → Result State Refusal
+composed gs = do
+  all ← over built_step tt gs
+  frames ← over profile_step None gs
+  over effect (start (unwrap_or frames default_frames)) gs
+
+-- the show of the groups of so many words
+unfoldable pub show_of : ℕ → List Group → Result Show Refusal
+show_of count gs = composed gs >>= seal count

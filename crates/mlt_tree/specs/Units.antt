@@ -1,0 +1,106 @@
+-- Units, and the tree that each stands for.
+use Rattle.std.specs.Prelude.{ℕ, ◌+◌, ◌≡◌, ◌<◌, max, List, [], ◌∷◌, ◌++◌, length, map, fold, get_or, All}
+use Rattle.mlt_tree.specs.declared.entry.Entry.{Entry}
+use Rattle.mlt_tree.specs.declared.entry.Entry.TheVariants.{Clip, Gap}
+use Rattle.mlt_tree.specs.declared.node.Body.{Body}
+use Rattle.mlt_tree.specs.declared.node.Body.TheVariants.{Source, Entries, Tractor}
+use Rattle.mlt_tree.specs.declared.node.Node.{Node}
+use Rattle.mlt_tree.specs.declared.node.Track.{Track as TrackOf}
+use Rattle.mlt_tree.specs.declared.tree.Hide.{Hide}
+use Rattle.mlt_tree.specs.Ranges.{IsAttached, IsEntry, IsPlant}
+use Rattle.mlt_tree.specs.Tree.{Tree, Parts, Tracks, Src, Blank, Part, Seq, With, Rows, End, Then, NoTrack, Track}
+
+-- the tree of an entry, where the trees of units are given
+abbrev pub entry_tree : (ℕ → Tree) → Entry → Tree
+entry_tree units (Clip unit span filters) = Part (With (units unit.0) filters) span.first.0 span.last.0
+entry_tree units (Gap count) = Blank count
+
+abbrev pub parts_of : (ℕ → Tree) → List Entry → Parts
+parts_of units [] = End
+parts_of units (e ∷ es) = Then (entry_tree units e) (parts_of units es)
+
+abbrev pub track_tree : (ℕ → Tree) → TrackOf → Tree
+track_tree units track = With (Seq (parts_of units track.entries)) track.filters
+
+abbrev pub tracks_of : (ℕ → Tree) → List TrackOf → Tracks
+tracks_of units [] = NoTrack
+tracks_of units (track ∷ tracks) = Track (track_tree units track) track.hide (tracks_of units tracks)
+
+abbrev pub body_tree : (ℕ → Tree) → Body → Tree
+body_tree units (Source source kind count) = Src source.0 kind count
+body_tree units (Entries entries) = Seq (parts_of units entries)
+body_tree units (Tractor tracks plants) = Rows (tracks_of units tracks) plants
+
+-- the tree of a unit
+abbrev pub node_tree : (ℕ → Tree) → Node → Tree
+node_tree units node = With (body_tree units node.body) node.filters
+
+-- a unit that isn't there has no frame
+abbrev pub nth_tree : List Tree → ℕ → Tree
+nth_tree trees unit = get_or trees unit (Blank 0)
+
+-- the trees of all units, each made of those before it
+abbrev pub trees : List Node → List Tree
+trees nodes = fold (λ so_far node. so_far ++ node_tree (nth_tree so_far) node ∷ []) [] nodes
+
+-- the tree that a numbered unit stands for
+abbrev pub tree_of : List Node → ℕ → Tree
+tree_of nodes unit = nth_tree (trees nodes) unit
+
+-- a track of a tractor that is not made yet
+pub record Draft : Type 0 where
+  pub entries : List Entry
+  pub hide : Hide
+
+abbrev pub track_of : Draft → TrackOf
+track_of draft = record { entries = draft.entries; filters = []; hide = draft.hide }
+
+-- the tractor of these tracks
+abbrev pub tractor_of : List Draft → Node
+tractor_of drafts = record { body = Tractor (map track_of drafts) []; filters = [] }
+
+-- how deep units are nested: the greatest depth of the entries' units
+abbrev pub entries_depth : (ℕ → ℕ) → List Entry → ℕ
+entries_depth depths [] = 0
+entries_depth depths (Clip unit span filters ∷ es) = max (depths unit.0) (entries_depth depths es)
+entries_depth depths (Gap count ∷ es) = entries_depth depths es
+
+abbrev pub tracks_depth : (ℕ → ℕ) → List TrackOf → ℕ
+tracks_depth depths [] = 0
+tracks_depth depths (track ∷ tracks) = max (entries_depth depths track.entries) (tracks_depth depths tracks)
+
+-- 0 for a source, and one more than the greatest of its members for another unit
+abbrev pub body_depth : (ℕ → ℕ) → Body → ℕ
+body_depth depths (Source source kind count) = 0
+body_depth depths (Entries entries) = entries_depth depths entries + 1
+body_depth depths (Tractor tracks plants) = tracks_depth depths tracks + 1
+
+abbrev pub depths : List Node → List ℕ
+depths nodes = fold (λ so_far node. so_far ++ body_depth (λ unit. get_or so_far unit 0) node.body ∷ []) [] nodes
+
+-- the depth of a numbered unit
+abbrev pub depth_of : List Node → ℕ → ℕ
+depth_of nodes unit = get_or (depths nodes) unit 0
+
+-- each unit of the entries is below a number
+abbrev pub IsEntryBelow : ℕ → Entry → Type 0
+IsEntryBelow count (Clip unit span filters) = unit.0 < count
+IsEntryBelow count (Gap gap) = Unit {0}
+
+pub record AreEntriesBelow (count : ℕ) (entries : List Entry) : Type 0 where
+  pub below : All (IsEntryBelow count) entries
+  pub ranges : All IsEntry entries
+
+pub record IsTrackBelow (count : ℕ) (track : TrackOf) : Type 0 where
+  pub entries : AreEntriesBelow count track.entries
+  pub filters : All IsAttached track.filters
+
+abbrev pub IsBodyBelow : ℕ → Body → Type 0
+IsBodyBelow count (Source source kind frames) = Unit {0}
+IsBodyBelow count (Entries entries) = AreEntriesBelow count entries
+IsBodyBelow count (Tractor tracks plants) = All (IsTrackBelow count) tracks × All IsPlant plants
+
+-- units refer to lower-numbered ones alone, and hold what is in its range
+pub record IsGraph (nodes : List Node) : Type 0 where
+  pub bodies : (unit : ℕ) (node : Node) → unit < length nodes → node ≡ get_or nodes unit node → IsBodyBelow unit node.body
+  pub filters : (unit : ℕ) (node : Node) → unit < length nodes → node ≡ get_or nodes unit node → All IsAttached node.filters

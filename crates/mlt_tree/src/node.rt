@@ -1,0 +1,42 @@
+//! The units of a composition, which entries refer to by their numbers.
+
+use crate::entry::Entry;
+use crate::lists::{FilterList, ItemList};
+use crate::tree::{Hide, Plant, SourceKind};
+use mlt_base::SourceNo;
+
+/// A track: its entries one after another, and filters on the whole, in the track's positions.
+#[derive(Drop)]
+pub struct Track {
+    pub entries: ItemList<Entry>,
+    pub filters: FilterList,
+    pub hide: Hide,
+}
+
+/// What a unit is made of.
+#[derive(Drop)]
+pub enum Body {
+    /// A source of so many frames.
+    Source {
+        no: SourceNo,
+        kind: SourceKind,
+        frames: u32,
+    },
+    /// Entries, one after another.
+    Entries {
+        entries: ItemList<Entry>,
+    },
+    /// Tracks over each other, the later ones above, with what is planted on them, in order.
+    Tractor {
+        tracks: ItemList<Track>,
+        plants: ItemList<Plant>,
+    },
+}
+
+/// A unit: what it is made of, and filters in its own positions. Its entries refer to lower-numbered
+/// units alone.
+#[derive(Drop)]
+pub struct Node {
+    pub body: Body,
+    pub filters: FilterList,
+}
