@@ -12,11 +12,11 @@ use Rattle.mlt_tree.specs.declared.group.Group.{Group}
 use Rattle.mlt_tree.specs.declared.node.Node.{Node}
 use Rattle.mlt_tree.specs.declared.refusal.Refusal.{Refusal}
 use Rattle.mlt_tree.specs.Composition as meaning
-use Rattle.mlt_tree.specs.Composition.{list_unit, on_last, edited, with_track, repeat}
+use Rattle.mlt_tree.specs.Composition.{on_last, edited, with_track, repeat}
 use Rattle.mlt_tree.specs.Edits as edit
 use Rattle.mlt_tree.specs.Edits.{Edit}
 use Rattle.mlt_tree.specs.Props.{counted}
-use Rattle.mlt_tree.specs.Units.{IsEntryBelow}
+use Rattle.mlt_tree.specs.Units.{list_unit, IsEntryBelow}
 use Rattle.mlt_playlist.specs.Playlist.{Does}
 use Rattle.mlt_graph.specs.Drafts.{last_entries, with_last_entries}
 use Rattle.melt_build.specs.Edited.{edited_at}

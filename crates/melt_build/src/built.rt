@@ -6,7 +6,6 @@ ghost use Rattle.mlt_tree.specs.Unbuilt.{is_built as is_built_kind, is_later_pro
 ghost use Rattle.mlt_tree.specs.Services.{producer_of, raw_of};
 ghost use Rattle.mlt_tree.specs.Refusing.{over};
 
-use crate::props::refusal_at;
 use crate::service::{Service, producer, raw};
 use mlt_tree::{Cause, Group, GroupKind, Prop, Refusal};
 
@@ -78,7 +77,7 @@ fn producer_is_built(group: &Group) -> Result<(), Refusal>
     if names_colour(group.arg.as_str()) {
         Ok(())
     } else {
-        Err(refusal_at(group.place, Cause::Unsupported))
+        Err(Refusal::at(group.place, Cause::Unsupported))
     }
 }
 
@@ -89,7 +88,7 @@ fn props_are_built(group: &Group) -> Result<(), Refusal>
         None => Ok(()),
         Some(_) => match later_prop(group.props.as_slice()) {
             None => Ok(()),
-            Some(prop) => Err(refusal_at(prop.place, Cause::Unsupported)),
+            Some(prop) => Err(Refusal::at(prop.place, Cause::Unsupported)),
         },
     }
 }
@@ -99,7 +98,7 @@ fn group_is_built(group: &Group) -> Result<(), Refusal>
     ensures { result ≡ built group.now }
 {
     if !kind_is_built(group.kind) {
-        return Err(refusal_at(group.place, Cause::Unsupported));
+        return Err(Refusal::at(group.place, Cause::Unsupported));
     }
     match group.kind {
         GroupKind::Producer => producer_is_built(group),

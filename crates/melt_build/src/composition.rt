@@ -12,7 +12,7 @@ ghost use Rattle.melt_build.specs.State.{IsComposed, state_view};
 
 use crate::built::all_built;
 use crate::object::Object;
-use crate::props::{Given, refusal_at};
+use crate::props::Given;
 use crate::sources::SourceTable;
 use crate::state::State;
 use mlt_base::{Profile, Rate, Try};
@@ -37,9 +37,9 @@ fn first_profile(found: Option<Profile>, group: &Group) -> Result<Option<Profile
     ensures { Takes (option_map profile_view) result (profile_named (option_map profile_view found) group.now) }
 {
     match found {
-        Some(_) => Err(refusal_at(group.place, Cause::TooMany { limit: 1 })),
+        Some(_) => Err(Refusal::at(group.place, Cause::TooMany { limit: 1 })),
         None => match Profile::read(group.arg.as_str()) {
-            None => Err(refusal_at(group.place, Cause::BadValue)),
+            None => Err(Refusal::at(group.place, Cause::BadValue)),
             Some(profile) => Ok(Some(profile)),
         },
     }

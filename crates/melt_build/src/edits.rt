@@ -4,7 +4,6 @@ ghost use Rattle.std.specs.Prelude.{◌≡◌};
 ghost use Rattle.mlt_tree.specs.Refusing.{play_cause as play_cause_of, refusal_at as refusal_of};
 ghost use Rattle.melt_build.specs.Edited.{edited_at};
 
-use crate::props::refusal_at;
 use mlt_base::{PlayFault, Try};
 use mlt_tree::{Cause, Refusal};
 
@@ -34,7 +33,7 @@ fn play_cause(fault: PlayFault) -> Cause
 pub(crate) fn refused(place: u32, fault: PlayFault) -> Refusal
     ensures { result ≡ refusal_of place (play_cause_of fault) }
 {
-    refusal_at(place, play_cause(fault))
+    Refusal::at(place, play_cause(fault))
 }
 
 /// An edit's answer, or the refusal of its group.

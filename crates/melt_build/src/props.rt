@@ -16,17 +16,6 @@ use mlt_base::{Rate, read_time, read_whole};
 use mlt_graph::Pix;
 use mlt_tree::{Cause, Prop, Refusal};
 
-/// The refusal of a word for this cause.
-pub(crate) fn refusal_at(place: u32, cause: Cause) -> Refusal
-    ensures { result ≡ refusal_of place cause }
-{
-    Refusal {
-        word: place,
-        inner: None,
-        cause,
-    }
-}
-
 /// This property where it has the name, else the one found before.
 fn later<'a>(found: Option<&'a Prop>, prop: &'a Prop, name: &str) -> Option<&'a Prop>
     ensures { option_copied result ≡ later_of name.now (option_copied found.entry) prop.now }
@@ -161,7 +150,7 @@ impl Given<'_, '_> {
         ensures { IfSome (last_named name.now (props_in self.now)) (λ prop. result ≡ refusal_of prop.place cause) }
     {
         match find(self.inherited.words, self.own.words, name) {
-            Some(prop) => refusal_at(prop.place, cause),
+            Some(prop) => Refusal::at(prop.place, cause),
             None => unreachable!(),
         }
     }

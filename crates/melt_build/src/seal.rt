@@ -4,7 +4,7 @@ ghost use Rattle.std.specs.Prelude.{◌≡◌, ◌≤◌, ◌<◌, ◌+◌, ◌-
 ghost use Rattle.std.specs.Option.{option_map};
 ghost use Rattle.mlt_base.specs.Try.{TryGives};
 ghost use Rattle.mlt_tree.specs.Composition.{State as StateOf};
-ghost use Rattle.mlt_tree.specs.Sealing.{unit_of, bytes_of, few_frames as few_frames_of, few_bytes as few_bytes_of, ranged as ranged_of, sealable, shown as shown_of, seal as seal_of, settings_of, default_consumer as default_of};
+ghost use Rattle.mlt_tree.specs.Sealing.{unit_of, bytes_of, few_frames as few_frames_of, few_bytes as few_bytes_of, ranged as ranged_of, sealable, show_of_tree as show_of_tree_of, seal as seal_of, settings_of, default_consumer as default_of};
 ghost use Rattle.mlt_tree.specs.Sources.{Fits};
 ghost use Rattle.mlt_tree.specs.Tree.{len};
 ghost use Rattle.mlt_tree.specs.Units.{IsEntryBelow, tractor_of};
@@ -15,7 +15,6 @@ ghost use Rattle.melt_build.specs.Reads.{Takes};
 ghost use Rattle.melt_build.specs.State.{IsComposed, consumer_view, cut_view, state_view};
 
 use crate::consumer::Consumer;
-use crate::props::refusal_at;
 use crate::sources::SourceTable;
 use crate::state::{Cut, State, cut_between};
 use mlt_base::{Pos, Profile, Text, Try};
@@ -52,7 +51,7 @@ fn few_frames(count: u32, range: Cut) -> Result<Cut, Refusal>
     if frames <= 1_000_000 {
         Ok(range)
     } else {
-        Err(refusal_at(
+        Err(Refusal::at(
             count,
             Cause::TooLong {
                 frames: u64::from(frames),
@@ -68,7 +67,7 @@ fn few_bytes(count: u32, bytes: u64, range: Cut) -> Result<Cut, Refusal>
     if bytes <= 2_147_483_648 {
         Ok(range)
     } else {
-        Err(refusal_at(count, Cause::TooLarge { bytes }))
+        Err(Refusal::at(count, Cause::TooLarge { bytes }))
     }
 }
 
@@ -129,9 +128,9 @@ fn graph_refusal(count: u32, fault: GraphFault) -> Try<Refusal>
     ensures { result ≡ refusal_of count fault }
 {
     match fault {
-        GraphFault::NoProducer => Try::Fault(refusal_at(count, Cause::NoProducer)),
-        GraphFault::TooDeep { depth } => Try::Fault(refusal_at(count, Cause::TooDeep { depth })),
-        GraphFault::TooMany { limit } => Try::Fault(refusal_at(count, Cause::TooMany { limit })),
+        GraphFault::NoProducer => Try::Fault(Refusal::at(count, Cause::NoProducer)),
+        GraphFault::TooDeep { depth } => Try::Fault(Refusal::at(count, Cause::TooDeep { depth })),
+        GraphFault::TooMany { limit } => Try::Fault(Refusal::at(count, Cause::TooMany { limit })),
         GraphFault::Memory => Try::Memory,
     }
 }
@@ -154,8 +153,8 @@ fn sealed(count: u32, mut graph: Graph, level: Level) -> Result<Sealed, Try<Refu
 }
 
 /// The show of a tree, on the positions that the consumer writes.
-#[tactic(auto, unfolding(mlt_tree::specs::Sealing::shown))]
-fn shown(
+#[tactic(auto, unfolding(mlt_tree::specs::Sealing::show_of_tree))]
+fn show_of_tree(
     alloc: Global,
     count: u32,
     profile: Profile,
@@ -163,7 +162,7 @@ fn shown(
     sealed: Sealed,
 ) -> Result<Show, Try<Refusal>>
     ensures show { (s : StateOf) → s.frames ≡ profile_view profile → s.consumer ≡ option_map consumer_view consumer.entry →
-        TryGives (λ show. meant show s.sources) result (shown_of count s (tree sealed)) }
+        TryGives (λ show. meant show s.sources) result (show_of_tree_of count s (tree sealed)) }
     ensures tree { IfOk result (λ show. tree show.sealed ≡ tree sealed) }
 {
     let c = consumer.unwrap_or(default_consumer());
@@ -199,6 +198,6 @@ pub(crate) fn seal(
     } = state;
     inherited.end();
     let sealed = sealed(count, graph, level)?;
-    let show = shown(alloc, count, profile, consumer, sealed)?;
+    let show = show_of_tree(alloc, count, profile, consumer, sealed)?;
     Ok((show, table))
 }

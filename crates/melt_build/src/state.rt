@@ -12,7 +12,7 @@ use crate::colours::colour_named;
 use crate::consumer::Consumer;
 use crate::edits::edited;
 use crate::object::Object;
-use crate::props::{Given, refusal_at};
+use crate::props::Given;
 use crate::service::{Service, colour_text, producer, raw};
 use crate::sources::{Colour, SourceTable};
 use mlt_base::{Pos, Profile, Span, Try};
@@ -69,7 +69,7 @@ pub(crate) fn cut_between(
     if first <= last && last < length {
         Ok(Cut { first, last })
     } else {
-        Err(refusal_at(
+        Err(Refusal::at(
             place,
             Cause::BadRange {
                 first,
@@ -144,7 +144,7 @@ impl<'a> State<'a> {
     {
         let rate = self.profile.rate;
         let Some(colour) = colour_named(colour_text(arg)) else {
-            return Err(Try::Fault(refusal_at(group.place, Cause::BadValue)));
+            return Err(Try::Fault(Refusal::at(group.place, Cause::BadValue)));
         };
         let given = Given {
             inherited: &self.inherited,
@@ -172,13 +172,13 @@ impl<'a> State<'a> {
         ensures composed { OnOk result (IsComposed self.new) }
     {
         let Some(named) = producer(group.arg.as_str()) else {
-            return Err(Try::Fault(refusal_at(group.place, Cause::UnknownService)));
+            return Err(Try::Fault(Refusal::at(group.place, Cause::UnknownService)));
         };
         match named.service {
             Service::Colour => self.colour_clip(alloc, group, own, named.arg),
-            Service::Picture => Err(Try::Fault(refusal_at(group.place, Cause::Unsupported))),
-            Service::Sound => Err(Try::Fault(refusal_at(group.place, Cause::Unsupported))),
-            Service::Melt => Err(Try::Fault(refusal_at(group.place, Cause::Unsupported))),
+            Service::Picture => Err(Try::Fault(Refusal::at(group.place, Cause::Unsupported))),
+            Service::Sound => Err(Try::Fault(Refusal::at(group.place, Cause::Unsupported))),
+            Service::Melt => Err(Try::Fault(Refusal::at(group.place, Cause::Unsupported))),
         }
     }
 
@@ -226,10 +226,10 @@ impl<'a> State<'a> {
         ensures composed { IsComposed self.new }
     {
         if let Some(_) = self.consumer {
-            return Err(refusal_at(group.place, Cause::TooMany { limit: 1 }));
+            return Err(Refusal::at(group.place, Cause::TooMany { limit: 1 }));
         }
         let Some(video) = raw(group.arg.as_str()) else {
-            return Err(refusal_at(group.place, Cause::UnknownService));
+            return Err(Refusal::at(group.place, Cause::UnknownService));
         };
         self.raw_output(group, given, video)
     }

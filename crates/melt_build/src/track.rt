@@ -10,7 +10,7 @@ ghost use Rattle.melt_build.specs.State.{IsComposed, state_view};
 ghost use Rattle.melt_build.specs.Track.{IsLastIndex};
 
 use crate::edits::{edited, refused};
-use crate::props::{counted, refusal_at, timed};
+use crate::props::{counted, timed};
 use crate::state::State;
 use mlt_base::{Try, read_whole};
 use mlt_tree::{Cause, Group, Refusal};
@@ -24,7 +24,7 @@ impl State<'_> {
         ensures composed { OnOk result (IsComposed self.new) }
     {
         match timed(self.profile.rate, group.arg.as_str()) {
-            Err(cause) => Err(Try::Fault(refusal_at(group.place, cause))),
+            Err(cause) => Err(Try::Fault(Refusal::at(group.place, cause))),
             Ok(last) => edited(group.place, self.level.last().blank(last)),
         }
     }
@@ -60,7 +60,7 @@ impl State<'_> {
     {
         let n = match counted(1, 100000, group.arg.as_str()) {
             Ok(n) => n,
-            Err(cause) => return Err(Try::Fault(refusal_at(group.place, cause))),
+            Err(cause) => return Err(Try::Fault(Refusal::at(group.place, cause))),
         };
         let Some(last) = self.last_index() else {
             return Err(Try::Fault(no_entry(group.place)));
@@ -91,7 +91,7 @@ impl State<'_> {
             Ok(k) => self.split_at_frame(group, k),
             Err(fault) => {
                 let cause = Cause::BadNumber(fault);
-                Err(Try::Fault(refusal_at(group.place, cause)))
+                Err(Try::Fault(Refusal::at(group.place, cause)))
             }
         }
     }
@@ -135,7 +135,7 @@ impl State<'_> {
     {
         match counted(1, 100000, group.arg.as_str()) {
             Ok(n) => self.joined(group, n),
-            Err(cause) => Err(Try::Fault(refusal_at(group.place, cause))),
+            Err(cause) => Err(Try::Fault(Refusal::at(group.place, cause))),
         }
     }
 }
@@ -144,5 +144,5 @@ impl State<'_> {
 fn no_entry(place: u32) -> Refusal
     ensures { result ≡ refusal_of place (Cause.TooFew 1 0) }
 {
-    refusal_at(place, Cause::TooFew { asked: 1, there: 0 })
+    Refusal::at(place, Cause::TooFew { asked: 1, there: 0 })
 }

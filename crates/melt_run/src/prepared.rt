@@ -22,17 +22,6 @@ use mlt_host::Host;
 use mlt_tree::{Cause, Group, GroupKind, GroupList, QueryKind, Refusal};
 use std::alloc::Global;
 
-/// The refusal of a word for this cause.
-fn refusal_at(place: u32, cause: Cause) -> Refusal
-    ensures { result ≡ refusal_of place cause }
-{
-    Refusal {
-        word: place,
-        inner: None,
-        cause,
-    }
-}
-
 /// What the words ask for.
 #[derive(Drop)]
 pub enum Prepared {
@@ -98,9 +87,9 @@ fn first_query(asked: Option<QueryKind>, group: &Group) -> Result<Option<QueryKi
     ensures { result ≡ meaning.query_again asked group.now }
 {
     match asked {
-        Some(_) => Err(refusal_at(group.place, Cause::TooMany { limit: 1 })),
+        Some(_) => Err(Refusal::at(group.place, Cause::TooMany { limit: 1 })),
         None => match query_named(group.arg.as_str()) {
-            None => Err(refusal_at(group.place, Cause::BadValue)),
+            None => Err(Refusal::at(group.place, Cause::BadValue)),
             Some(asked) => Ok(Some(asked)),
         },
     }
@@ -211,7 +200,7 @@ fn job<H: Host>(alloc: Global, groups: &GroupList, host: &mut H) -> Prepared
         return query(list);
     }
     match later_job(list) {
-        Some(group) => Prepared::Refused(refusal_at(group.place, Cause::Unsupported)),
+        Some(group) => Prepared::Refused(Refusal::at(group.place, Cause::Unsupported)),
         None => play(alloc, groups, host),
     }
 }
@@ -232,7 +221,7 @@ fn cause_of(cause: WordCause) -> Cause
 fn word_refusal(fault: WordFault) -> Refusal
     ensures { result ≡ refusal_of fault.place (meaning.cause_of fault.cause) }
 {
-    refusal_at(fault.place, cause_of(fault.cause))
+    Refusal::at(fault.place, cause_of(fault.cause))
 }
 
 /// What the words mean.

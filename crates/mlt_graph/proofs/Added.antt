@@ -11,8 +11,8 @@ use Rattle.mlt_tree.specs.declared.node.Node.{Node}
 use Rattle.mlt_tree.specs.Edits.{frames_in}
 use Rattle.mlt_tree.specs.Ranges.{IsAttached}
 use Rattle.mlt_tree.specs.Tree.{Tree}
-use Rattle.mlt_tree.specs.Units.{node_tree, tree_of, body_depth, depth_of, IsEntryBelow, IsBodyBelow, IsGraph}
-use Rattle.mlt_graph.specs.Graph.{list_unit, HasLength, HasFewTracks, IsSized}
+use Rattle.mlt_tree.specs.Units.{list_unit, node_tree, tree_of, body_depth, depth_of, IsEntryBelow, IsBodyBelow, IsGraph}
+use Rattle.mlt_graph.specs.Graph.{HasLength, HasFewTracks, IsSized}
 use Rattle.mlt_graph.specs.Sizes.{nothing, size_of, entries_size, list_size}
 use Rattle.mlt_graph.specs.declared.size.Size.{Size}
 use Rattle.mlt_graph.proofs.SizeLemmas.{len_in-frames, list_size-is}

@@ -9,7 +9,7 @@ use Rattle.mlt_tree.specs.declared.node.Track.{Track}
 use Rattle.mlt_tree.specs.declared.tree.Hide.{Hide}
 use Rattle.mlt_tree.specs.Units.{Draft, track_of}
 use Rattle.mlt_playlist.specs.Playlist.{IsList}
-use Rattle.mlt_graph.specs.Drafts.{last_entries, with_last_entries, draft_of, drafts_of, IsFinished, AreFinished}
+use Rattle.mlt_graph.specs.Drafts.{last_entries, with_last_entries, as_draft, drafts_of, IsFinished, AreFinished}
 use Rattle.mlt_graph.specs.Sizes.{nothing, filtered, entries_size, over_size, track_size, tracks_size}
 use Rattle.mlt_graph.specs.declared.size.Size.{Size}
 
@@ -25,36 +25,36 @@ with_last_entries-push (first ∷ []) draft entries = refl
 with_last_entries-push (first ∷ next ∷ drafts) draft entries = ap (λ rest. first ∷ rest) (with_last_entries-push (next ∷ drafts) draft entries)
 
 -- finished tracks have no filter, so they are what is seen of them
-finished-are : (below : List Track) → AllByRecursion IsFinished below → map track_of (map draft_of below) ≡ below
+finished-are : (below : List Track) → AllByRecursion IsFinished below → map track_of (map as_draft below) ≡ below
 finished-are [] finished = refl
 finished-are (track ∷ below) finished =
-    ap (λ fs. record { entries = track.entries; filters = fs; hide = track.hide } ∷ map track_of (map draft_of below)) (sym finished.0.filters)
+    ap (λ fs. record { entries = track.entries; filters = fs; hide = track.hide } ∷ map track_of (map as_draft below)) (sym finished.0.filters)
     ∙ ap (λ rest. track ∷ rest) (finished-are below finished.1)
 
-each-push : (P : List Entry → Type 0) (below : List Track) (draft : Draft) → AllByRecursion (λ (draft : Draft). P draft.entries) (map draft_of below ++ draft ∷ [])
+each-push : (P : List Entry → Type 0) (below : List Track) (draft : Draft) → AllByRecursion (λ (draft : Draft). P draft.entries) (map as_draft below ++ draft ∷ [])
     → AllByRecursion (λ (track : Track). P track.entries) below × P draft.entries
 each-push P [] draft all = (tt, all.0)
 each-push P (track ∷ below) draft all = let rest = each-push P below draft all.1 in ((all.0, rest.0), rest.1)
 
 module _ (below : List Track) (last : List Entry) (hide : Hide) (level : List Draft) (view : drafts_of below last hide ≡ level) where
   pub last-is : last ≡ last_entries level
-  last-is = sym (ap last_entries (sym view) ∙ last_entries-push (map draft_of below) (record { entries = last; hide = hide }))
+  last-is = sym (ap last_entries (sym view) ∙ last_entries-push (map as_draft below) (record { entries = last; hide = hide }))
 
   pub last-set : (entries : List Entry) → drafts_of below entries hide ≡ with_last_entries level entries
   last-set entries =
-      sym (ap (λ ds. with_last_entries ds entries) (sym view) ∙ with_last_entries-push (map draft_of below) (record { entries = last; hide = hide }) entries)
+      sym (ap (λ ds. with_last_entries ds entries) (sym view) ∙ with_last_entries-push (map as_draft below) (record { entries = last; hide = hide }) entries)
 
   module _ (finished : AreFinished below) where
     pub lists-are : IsList last → All (λ track. IsList track.entries) level
     lists-are list =
         subst (All (λ track. IsList track.entries)) view
-        (All-push (λ track. IsList track.entries) (map draft_of below) (record { entries = last; hide = hide })
-        (All-map (λ track. IsList track.entries) draft_of below (All-weaker IsFinished (λ track. IsList track.entries) (λ track f. f.list) below finished.tracks)) list)
+        (All-push (λ track. IsList track.entries) (map as_draft below) (record { entries = last; hide = hide })
+        (All-map (λ track. IsList track.entries) as_draft below (All-weaker IsFinished (λ track. IsList track.entries) (λ track f. f.list) below finished.tracks)) list)
 
     pub tracks-are : below ++ record { entries = last; filters = []; hide = hide } ∷ [] ≡ map track_of level
     tracks-are =
         sym (ap (map track_of) (sym view)
-        ∙ map-append track_of (map draft_of below) (record { entries = last; hide = hide } ∷ [])
+        ∙ map-append track_of (map as_draft below) (record { entries = last; hide = hide } ∷ [])
         ∙ ap (λ ts. ts ++ record { entries = last; filters = []; hide = hide } ∷ []) (finished-are below (recursion_from_All IsFinished below finished.tracks)))
 
   module _ (P : List Entry → Type 0) (all : All (λ draft. P draft.entries) level) where

@@ -19,12 +19,12 @@ with_last_entries (draft ∷ []) entries = record draft { entries = entries } �
 with_last_entries (draft ∷ next ∷ drafts) entries = draft ∷ with_last_entries (next ∷ drafts) entries
 
 -- a track, as it is before its tractor is made
-abbrev pub draft_of : Track → Draft
-draft_of track = record { entries = track.entries; hide = track.hide }
+abbrev pub as_draft : Track → Draft
+as_draft track = record { entries = track.entries; hide = track.hide }
 
 -- what finished tracks and the last one are seen as
 abbrev pub drafts_of : (below : List Track) (last : List Entry) (hide : Hide) → List Draft
-drafts_of below last hide = map draft_of below ++ record { entries = last; hide = hide } ∷ []
+drafts_of below last hide = map as_draft below ++ record { entries = last; hide = hide } ∷ []
 
 -- a finished track has no filter, and a playlist's entries
 pub record IsFinished (track : Track) : Type 0 where

@@ -11,14 +11,6 @@ use Rattle.mlt_tree.specs.Units.{tree_of, depth_of, IsGraph}
 use Rattle.mlt_graph.specs.declared.size.Size.{Size}
 use Rattle.mlt_graph.specs.Sizes.{Tells}
 
--- the unit of a source
-abbrev pub source_unit : SourceNo → SourceKind → (frames : ℕ) → Node
-source_unit source kind frames = record { body = Source source kind frames; filters = [] }
-
--- the unit of entries, one after another
-abbrev pub list_unit : List Entry → Node
-list_unit entries = record { body = Entries entries; filters = [] }
-
 -- a unit has a frame, and fewer than 2^31 of them
 pub record HasLength (tree : Tree) : Type 0 where
   pub some : 1 ≤ len tree

@@ -3,9 +3,9 @@
 ghost use Rattle.std.specs.Prelude.{◌≡◌, ◌≤◌, ◌<◌, ◌^◌, ◌⊎◌, ◌↔◌, [], ◌∷◌, ◌++◌, length, All, Err, IfOk, IfErr, OnOk, OnErr};
 ghost use Rattle.mlt_tree.specs.Edits.{frames_in};
 ghost use Rattle.mlt_tree.specs.Tree.{len};
-ghost use Rattle.mlt_tree.specs.Units.{node_tree, tractor_of, tree_of, body_depth, depth_of, IsEntryBelow, AreEntriesBelow, IsBodyBelow};
+ghost use Rattle.mlt_tree.specs.Units.{source_unit, list_unit, node_tree, tractor_of, tree_of, body_depth, depth_of, IsEntryBelow, AreEntriesBelow, IsBodyBelow};
 ghost use Rattle.mlt_graph.specs.declared.fault.GraphFault.TheVariants.{NoProducer, Memory};
-ghost use Rattle.mlt_graph.specs.Graph.{source_unit, list_unit, HasLength, HasFewTracks};
+ghost use Rattle.mlt_graph.specs.Graph.{HasLength, HasFewTracks};
 ghost use Rattle.mlt_graph.specs.Seal.{seal};
 ghost use Rattle.mlt_graph.specs.Sizes.{size_of};
 

@@ -45,7 +45,7 @@ two_entries es at h =
 
 -- enough entries
 mix-is : (es : List Entry) (at n m unit : ℕ) → at + 1 < length es → m ≡ min n (min (frames (entry_at es at)) (frames (entry_at es (at + 1))))
-    → mix at n unit es ≡ grown (edit.parts_of m (entry_at es at) (entry_at es (at + 1))) (replaced es at 2 (mixed_of unit m (entry_at es at) (entry_at es (at + 1))))
+    → mix at n unit es ≡ grown (edit.mixed_parts m (entry_at es at) (entry_at es (at + 1))) (replaced es at 2 (mixed_of unit m (entry_at es at) (entry_at es (at + 1))))
 mix-is es at n m unit h is =
     let two : drop at es ≡ entry_at es at ∷ entry_at es (at + 1) ∷ drop (at + 2) es = two_entries es at h in
     rw (two, mix, is) refl
@@ -135,11 +135,11 @@ pub mixed : (es now : List Entry) (at n m unit total all : ℕ) (parts : Mixed) 
     → ((u : ℕ) → IsTested (replaced es at 2 (mixed_of u m (entry_at es at) (entry_at es (at + 1)))) (Ok all))
     → between ≡ clip unit 0 (m - 1) []
     → now ≡ replaced es at 2 (without_last (entry_at es at) m ++ (between ∷ without_first (entry_at es (at + 1)) m))
-    → parts ≡ edit.parts_of m (entry_at es at) (entry_at es (at + 1))
+    → parts ≡ edit.mixed_parts m (entry_at es at) (entry_at es (at + 1))
     → IsMixed es at n unit parts now all
 mixed es now at n m unit total all parts between counted h some is tested one list both =
     record {
-      does = mix-is es at n m unit h is ∙ grown-ok (edit.parts_of m a b) (replaced es at 2 (mixed_of unit m a b)) (tested unit).0 (tested unit).1 ∙ ap (λ p. Ok (p, replaced es at 2 (mixed_of unit m a b))) (sym both) ∙ ap (λ l. Ok (parts, l)) (sym same);
+      does = mix-is es at n m unit h is ∙ grown-ok (edit.mixed_parts m a b) (replaced es at 2 (mixed_of unit m a b)) (tested unit).0 (tested unit).1 ∙ ap (λ p. Ok (p, replaced es at 2 (mixed_of unit m a b))) (sym both) ∙ ap (λ l. Ok (parts, l)) (sym same);
       counted = subst (λ l. IsCounted l all) (sym same) (tested-counted (replaced es at 2 (mixed_of unit m a b)) all (mixed-sized es at m unit counted.list.entries h (omega (arith, has_frame a is_a, has_frame b is_b)) (omega arith) (omega arith)).entries (tested unit));
     }
   where

@@ -6,7 +6,7 @@ use Rattle.mlt_tree.specs.declared.entry.Entry.{Entry}
 use Rattle.mlt_tree.specs.Edits.{Mixed, cut}
 use Rattle.mlt_tree.specs.Ranges.{frames}
 use Rattle.mlt_playlist.specs.declared.playlist.MixParts.{MixParts}
-use Rattle.mlt_playlist.specs.Parts.{parts_of}
+use Rattle.mlt_playlist.specs.Parts.{mixed_view}
 
 -- the last frames of an entry that has more, and the first
 abbrev pub last_part : Entry → ℕ → Option Entry
@@ -24,5 +24,5 @@ without_first e n = if nat_lt n (frames e) then cut e n (frames e) ∷ [] else [
 
 -- what a mix answers, with the parts as its meaning names them
 abbrev pub answer_of : Result MixParts (Try PlayFault) → Result Mixed (Try PlayFault)
-answer_of (Ok parts) = Ok (parts_of parts)
+answer_of (Ok parts) = Ok (mixed_view parts)
 answer_of (Err e) = Err e

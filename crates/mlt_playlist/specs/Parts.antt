@@ -3,5 +3,5 @@ use Rattle.mlt_tree.specs.Edits.{Mixed}
 use Rattle.mlt_playlist.specs.declared.playlist.MixParts.{MixParts}
 
 -- the parts that a mix hands out, as its meaning names them
-abbrev pub parts_of : MixParts → Mixed
-parts_of parts = record { a = parts.a; b = parts.b; frames = parts.frames }
+abbrev pub mixed_view : MixParts → Mixed
+mixed_view parts = record { a = parts.a; b = parts.b; frames = parts.frames }

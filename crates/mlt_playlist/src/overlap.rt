@@ -5,7 +5,7 @@ ghost use Rattle.mlt_tree.specs.Edits as edit;
 ghost use Rattle.mlt_tree.specs.Edits.{cut, replaced, mixed_of};
 ghost use Rattle.mlt_tree.specs.Ranges.{IsEntry, frames};
 ghost use Rattle.mlt_playlist.specs.Overlaps.{answer_of, first_part, last_part, without_first, without_last};
-ghost use Rattle.mlt_playlist.specs.Parts.{parts_of};
+ghost use Rattle.mlt_playlist.specs.Parts.{mixed_view};
 ghost use Rattle.mlt_playlist.specs.Place.{entry_at};
 ghost use Rattle.mlt_playlist.specs.Playlist.{Does, IsCounted, IsTested};
 
@@ -94,7 +94,7 @@ fn overlap(entries: &mut Vec<Entry>, at: usize, n: u32, clip: Entry) -> Result<M
     requires second { (n ≤ frames (entry_at entries.old.items (at + 1))) × (frames (entry_at entries.old.items (at + 1)) < 2 ^ 32) }
     requires entries { All IsEntry entries.old.items }
     ensures list { OnOk result (entries.new.items ≡ replaced entries.old.items at 2 (without_last (entry_at entries.old.items at) n ++ (clip ∷ without_first (entry_at entries.old.items (at + 1)) n))) }
-    ensures parts { IfOk result (λ parts. parts_of parts ≡ edit.parts_of n (entry_at entries.old.items at) (entry_at entries.old.items (at + 1))) }
+    ensures parts { IfOk result (λ parts. mixed_view parts ≡ edit.mixed_parts n (entry_at entries.old.items at) (entry_at entries.old.items (at + 1))) }
     ensures same { OnErr result (entries.new.items ≡ entries.old.items) }
 {
     let last = copy_last(&entries[at], n)?;

@@ -2,19 +2,23 @@
 use Rattle.std.specs.Prelude.{ℕ, ◌≡◌, refl, false, List, [], ◌∷◌, Option, None, Some}
 use Rattle.mlt_tree.specs.declared.entry.Entry.TheVariants.{Gap}
 use Rattle.mlt_tree.specs.declared.node.Node.{Node}
-use Rattle.mlt_tree.specs.Composition.{source_unit, list_unit}
+use Rattle.mlt_tree.specs.declared.tree.SourceKind.TheVariants.{Colour}
 use Rattle.mlt_tree.specs.Edits.{clip}
 use Rattle.mlt_tree.specs.Tree.{Tree, Pictures, mean, numbers, needs, len, need, weight, ops}
-use Rattle.mlt_tree.specs.Units.{tree_of, depth_of, tractor_of}
+use Rattle.mlt_tree.specs.Units.{source_unit, list_unit, tree_of, depth_of, tractor_of}
 
 -- the number of the source that is seen
 abbrev seen : Tree → ℕ → Option ℕ
 seen t n = mean Pictures numbers t n
 
+-- a colour by its number
+abbrev colour : ℕ → Node
+colour source = source_unit (record { 0 = source }) Colour 15000
+
 -- a frame of one colour, two with nothing, a frame of another
 abbrev apart : List Node
 apart =
-    source_unit 0 15000 ∷ source_unit 1 15000 ∷ tractor_of (record { entries = clip 0 0 0 [] ∷ Gap 2 ∷ clip 1 0 0 [] ∷ []; hide = record { video = false; audio = false } } ∷ []) ∷ []
+    colour 0 ∷ colour 1 ∷ tractor_of (record { entries = clip 0 0 0 [] ∷ Gap 2 ∷ clip 1 0 0 [] ∷ []; hide = record { video = false; audio = false } } ∷ []) ∷ []
 
 apart_length : len (tree_of apart 2) ≡ 4
 apart_length = refl
@@ -28,7 +32,7 @@ apart_needs = refl
 -- both colours joined, and the joined clip twice: its unit has a number of its own
 abbrev twice : List Node
 twice =
-    source_unit 0 15000 ∷ source_unit 1 15000 ∷ list_unit (clip 0 0 0 [] ∷ clip 1 0 0 [] ∷ []) ∷ tractor_of (record { entries = clip 2 0 1 [] ∷ clip 2 0 1 [] ∷ []; hide = record { video = false; audio = false } } ∷ []) ∷ []
+    colour 0 ∷ colour 1 ∷ list_unit (clip 0 0 0 [] ∷ clip 1 0 0 [] ∷ []) ∷ tractor_of (record { entries = clip 2 0 1 [] ∷ clip 2 0 1 [] ∷ []; hide = record { video = false; audio = false } } ∷ []) ∷ []
 
 twice_seen : (seen (tree_of twice 3) 0 ∷ seen (tree_of twice 3) 1 ∷ seen (tree_of twice 3) 2 ∷ seen (tree_of twice 3) 3 ∷ []) ≡ (Some 0 ∷ Some 1 ∷ Some 0 ∷ Some 1 ∷ [])
 twice_seen = refl

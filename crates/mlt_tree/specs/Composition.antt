@@ -10,7 +10,6 @@ use Rattle.mlt_tree.specs.declared.group.Group.{Group}
 use Rattle.mlt_tree.specs.declared.group.GroupKind.{GroupKind}
 use Rattle.mlt_tree.specs.declared.group.GroupKind.TheVariants as kind
 use Rattle.mlt_tree.specs.declared.group.Prop.{Prop}
-use Rattle.mlt_tree.specs.declared.node.Body.TheVariants as body
 use Rattle.mlt_tree.specs.declared.node.Node.{Node}
 use Rattle.mlt_tree.specs.declared.refusal.Cause.TheVariants as cause
 use Rattle.mlt_tree.specs.declared.refusal.Refusal.{Refusal}
@@ -20,6 +19,7 @@ use Rattle.mlt_tree.specs.Edits.{Edit, clip}
 use Rattle.mlt_tree.specs.Props.{last_named, read_prop, read_given, counted, sized, timed}
 use Rattle.mlt_tree.specs.Refusing.{refuse, known, at_word, at_group}
 use Rattle.mlt_tree.specs.Services.{Named, Service, ColourService, PictureFile, SoundFile, MeltFile, producer_of, raw_of, colour_name}
+use Rattle.mlt_tree.specs.Units.{source_unit, list_unit}
 use Rattle.mlt_tree.specs.Show.{Size, Fraction, Source, Plain, Pix, Rgb, Rgba}
 
 -- ---- the profile
@@ -114,14 +114,11 @@ cut_of place length first out =
 abbrev pub own_length : ℕ
 own_length = 15000
 
-abbrev pub source_unit : (source frames : ℕ) → Node
-source_unit source frames = record { body = body.Source (record { 0 = source }) Colour frames; filters = [] }
-
 -- a clip of a colour: its source and its unit have the next numbers
 abbrev pub clip_added : State → Group → Source → (length : ℕ) → Cut → Result State Refusal
 clip_added s g source frames cut = do
   done ← at_group g.place (edit.append (clip (length s.units) cut.first cut.last []) s.track)
-  Ok (record s { track = done.1; units = s.units ++ source_unit (length s.sources) frames ∷ []; sources = s.sources ++ source ∷ [] })
+  Ok (record s { track = done.1; units = s.units ++ source_unit (record { 0 = length s.sources }) Colour frames ∷ []; sources = s.sources ++ source ∷ [] })
 
 unfoldable pub colour_clip : State → Group → List ℕ → Result State Refusal
 colour_clip s g arg = do
@@ -169,9 +166,6 @@ split s g = at_word g.place (whole g.arg) >>= split_at_frame s g
 
 abbrev pub swap : State → Group → Result State Refusal
 swap s g = edited s g (edit.swap_last s.track)
-
-abbrev pub list_unit : List Entry → Node
-list_unit entries = record { body = body.Entries entries; filters = [] }
 
 -- the last n entries become one clip of a new unit
 abbrev pub joined : State → Group → ℕ → Result State Refusal

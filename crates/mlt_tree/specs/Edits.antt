@@ -137,8 +137,8 @@ abbrev pub mixed_of : (unit m : ℕ) → (a b : Entry) → List Entry
 mixed_of unit m a b =
     (if nat_lt m (frames a) then cut a 0 (frames a - m) ∷ [] else []) ++ (clip unit 0 (m - 1) [] ∷ (if nat_lt m (frames b) then cut b m (frames b) ∷ [] else []))
 
-abbrev pub parts_of : ℕ → (a b : Entry) → Mixed
-parts_of m a b = record { a = cut a (frames a - m) (frames a); b = cut b 0 m; frames = m }
+abbrev pub mixed_parts : ℕ → (a b : Entry) → Mixed
+mixed_parts m a b = record { a = cut a (frames a - m) (frames a); b = cut b 0 m; frames = m }
 
 abbrev pub mix : (at n unit : ℕ) → List Entry → Edit Mixed
 mix at n unit es = by (drop at es) where
@@ -146,7 +146,7 @@ mix at n unit es = by (drop at es) where
   by [] = too_few es at 2
   by (a ∷ []) = too_few es at 2
   by (a ∷ b ∷ rest) =
-      let m = min n (min (frames a) (frames b)) in grown (parts_of m a b) (replaced es at 2 (mixed_of unit m a b))
+      let m = min n (min (frames a) (frames b)) in grown (mixed_parts m a b) (replaced es at 2 (mixed_of unit m a b))
 
 abbrev pub repeat_clip : (at n : ℕ) → List Entry → Edit (Unit {0})
 repeat_clip at n es = with_entry es at (λ e. grown tt (replaced es at 1 (replicate n e)))

@@ -100,8 +100,8 @@ sealable count units top = do
   not_heavy count (tree_of units top)
 
 -- a tree at the end of so many words, on the positions that the consumer writes
-unfoldable pub shown : ℕ → State → Tree → Result Show Refusal
-shown count s t = do
+unfoldable pub show_of_tree : ℕ → State → Tree → Result Show Refusal
+show_of_tree count s t = do
   range ← ranged count s.frames (unwrap_or s.consumer default_consumer) t
   Ok (show_on s.frames (unwrap_or s.consumer default_consumer) s.sources t range)
 
@@ -109,7 +109,7 @@ shown count s t = do
 unfoldable pub seal : ℕ → State → Result Show Refusal
 seal count s = do
   whole ← sealable count (all_units s) (length s.units)
-  shown count s (whole_tree s)
+  show_of_tree count s (whole_tree s)
 
 -- what is not built first, then the profile, then the groups in word order
 unfoldable pub composed : List Group → Result State Refusal

@@ -1,5 +1,6 @@
 -- Units, and the tree that each stands for.
 use Rattle.std.specs.Prelude.{ℕ, ◌+◌, ◌≡◌, ◌<◌, max, List, [], ◌∷◌, ◌++◌, length, map, fold, get_or, All}
+use Rattle.mlt_base.specs.declared.profile.SourceNo.{SourceNo}
 use Rattle.mlt_tree.specs.declared.entry.Entry.{Entry}
 use Rattle.mlt_tree.specs.declared.entry.Entry.TheVariants.{Clip, Gap}
 use Rattle.mlt_tree.specs.declared.node.Body.{Body}
@@ -7,8 +8,17 @@ use Rattle.mlt_tree.specs.declared.node.Body.TheVariants.{Source, Entries, Tract
 use Rattle.mlt_tree.specs.declared.node.Node.{Node}
 use Rattle.mlt_tree.specs.declared.node.Track.{Track as TrackOf}
 use Rattle.mlt_tree.specs.declared.tree.Hide.{Hide}
+use Rattle.mlt_tree.specs.declared.tree.SourceKind.{SourceKind}
 use Rattle.mlt_tree.specs.Ranges.{IsAttached, IsEntry, IsPlant}
 use Rattle.mlt_tree.specs.Tree.{Tree, Parts, Tracks, Src, Blank, Part, Seq, With, Rows, End, Then, NoTrack, Track}
+
+-- the unit of a source of so many frames
+abbrev pub source_unit : SourceNo → SourceKind → ℕ → Node
+source_unit source kind frames = record { body = Source source kind frames; filters = [] }
+
+-- the unit of entries, one after another
+abbrev pub list_unit : List Entry → Node
+list_unit entries = record { body = Entries entries; filters = [] }
 
 -- the tree of an entry, where the trees of units are given
 abbrev pub entry_tree : (ℕ → Tree) → Entry → Tree

@@ -2,6 +2,7 @@
 
 ghost use Rattle.std.specs.Prelude.{◌≡◌};
 ghost use Rattle.mlt_base.specs.declared.refusal.Try.TheVariants.{Fault};
+ghost use Rattle.mlt_tree.specs.Refusing.{refusal_at};
 
 use mlt_base::{NumFault, Try};
 
@@ -53,6 +54,19 @@ pub struct Refusal {
     pub word: u32,
     pub inner: Option<u32>,
     pub cause: Cause,
+}
+
+impl Refusal {
+    /// The refusal of a word of the run's own for this cause.
+    pub fn at(word: u32, cause: Cause) -> Refusal
+        ensures { result ≡ refusal_at word cause }
+    {
+        Refusal {
+            word,
+            inner: None,
+            cause,
+        }
+    }
 }
 
 impl From<Refusal> for Try<Refusal> {
