@@ -4,3 +4,4 @@ mod Over
 mod Sealed
 mod Texts
 mod Tracks
+mod WordsCounted

@@ -9,3 +9,4 @@ pub mod Service
 pub mod Sources
 pub mod State
 pub mod Track
+pub mod WordCount

@@ -1,16 +1,17 @@
 //! From groups to a show.
 
-ghost use Rattle.std.specs.Prelude.{◌≡◌, ◌≤◌, All, IfOk, [], find};
+ghost use Rattle.std.specs.Prelude.{◌≡◌, ◌≤◌, All, IfOk, find, fold};
 ghost use Rattle.std.specs.Option.{option_copied};
 ghost use Rattle.mlt_host.specs.Host.{OnlyLoads};
 ghost use Rattle.mlt_base.specs.Try.{TryGives};
-ghost use Rattle.mlt_tree.specs.GroupWords.{IsAllowed, IsAllowedProp, behind, behind_group, has_argument, words_in};
+ghost use Rattle.mlt_tree.specs.GroupWords.{IsAllowed, words_in};
 ghost use Rattle.mlt_tree.specs.Sealing.{show_of};
 ghost use Rattle.mlt_tree.specs.Sources.{Fits};
 ghost use Rattle.mlt_tree.specs.Table.{is_kind, row_of};
 ghost use Rattle.mlt_graph.specs.Sealed.{tree};
 ghost use Rattle.mlt_graph.specs.Show.{meant};
 ghost use Rattle.melt_build.specs.Builds.{Builds};
+ghost use Rattle.melt_build.specs.WordCount.{behind_group, has_argument as has_argument_of};
 
 use crate::composition::composed;
 use crate::seal::seal;
@@ -54,8 +55,8 @@ fn row_of_kind(rows: &[Row], kind: GroupKind) -> Option<&Row>
 
 /// Whether a word of its own stands behind the first word of a group of this kind.
 #[tactic(auto, unfolding(mlt_tree::specs::Table::row_of))]
-fn takes_argument(kind: GroupKind) -> bool
-    ensures { result ≡ has_argument (row_of kind) }
+fn has_argument(kind: GroupKind) -> bool
+    ensures { result ≡ has_argument_of (row_of kind) }
 {
     match row_of_kind(&OPTIONS, kind) {
         Some(row) => row.argument,
@@ -70,7 +71,7 @@ fn behind_words(most: u32, group: &Group) -> u32
     ensures value { result ≡ behind_group most group.now }
     ensures few { result ≤ 10001 }
 {
-    let argument = u32::from(takes_argument(group.kind));
+    let argument = u32::from(has_argument(group.kind));
     let mut most = most.max(group.place + argument + 1);
     for prop in group.props.as_slice() {
         most = most.max(prop.place + 1);
@@ -78,16 +79,25 @@ fn behind_words(most: u32, group: &Group) -> u32
     most
 }
 
-/// How many words the groups are made of.
-fn word_count(groups: &[Group]) -> u32
+/// One more than the place of the last word of all groups.
+fn behind_groups(groups: &[Group]) -> u32
     requires { All IsAllowed groups.now }
-    ensures { result ≡ words_in groups.now }
+    ensures { result ≡ fold behind_group 0 groups.now }
 {
     let mut most = 0;
     for group in groups {
         most = behind_words(most, group);
     }
     most
+}
+
+/// How many words the groups are made of.
+#[tactic(auto, using(crate::proofs::WordsCounted::all_counted))]
+fn word_count(groups: &[Group]) -> u32
+    requires { All IsAllowed groups.now }
+    ensures { result ≡ words_in groups.now }
+{
+    behind_groups(groups)
 }
 
 /// The show of the groups of so many words.
@@ -117,7 +127,6 @@ pub fn build<H: Host>(
     ensures asked { (H.state host.new).asked ≡ (H.state host.old).asked }
     ensures rest { OnlyLoads (H.state host.old) (H.state host.new) }
 {
-    let _ = host;
     let list = groups.as_slice();
     match made(alloc, word_count(list), list) {
         Ok(made) => Ok(made),

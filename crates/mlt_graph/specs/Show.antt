@@ -3,7 +3,8 @@ use Rattle.std.specs.Prelude.{List}
 use Rattle.mlt_base.specs.declared.profile.Profile.{Profile}
 use Rattle.mlt_base.specs.declared.profile.Rate.{Rate}
 use Rattle.mlt_tree.specs.Show as meaning
-use Rattle.mlt_tree.specs.Composition.{Frames}
+use Rattle.mlt_base.specs.ProfileView.{measures_of}
+use Rattle.mlt_tree.specs.Composition.{Frames, frames_by}
 use Rattle.mlt_graph.specs.declared.show.Output.{Output}
 use Rattle.mlt_graph.specs.declared.show.Pix.{Pix}
 use Rattle.mlt_graph.specs.declared.show.Pix.TheVariants.{Rgb, Rgba}
@@ -14,10 +15,7 @@ abbrev pub fraction : Rate → meaning.Fraction
 fraction rate = record { num = rate.num; den = rate.den }
 
 abbrev pub profile_view : Profile → Frames
-profile_view profile = record {
-  size = record { width = profile.width; height = profile.height };
-  rate = fraction profile.rate;
-}
+profile_view profile = frames_by (measures_of profile)
 
 abbrev pub pix_of : Pix → meaning.Pix
 pix_of Rgb = meaning.Rgb

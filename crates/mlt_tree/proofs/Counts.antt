@@ -1,45 +1,20 @@
 -- Groups have as many words as were read.
-use Rattle.std.proofs.Common.{ℕ, ◌≡◌, ◌+◌, Bool, true, false, List, [], ◌∷◌, length, map, fold, Option, None, Some, refl, ap, sym, ◌∙◌, arith, cond}
-use Rattle.std.proofs.lemmas.Grind.{fold-append}
-use Rattle.std.specs.List.{flat_map, enumerate_from}
-use Rattle.mlt_tree.specs.declared.group.Group.{Group}
-use Rattle.mlt_tree.specs.declared.group.Prop.{Prop}
-use Rattle.mlt_tree.specs.declared.table.Row.{Row}
-use Rattle.mlt_tree.specs.Table.{row_of, name_of}
-use Rattle.mlt_tree.specs.GroupWords.{prop_word, own_words_by, own_words, words_of, behind, has_argument, behind_group, CountsWords}
+use Rattle.std.proofs.Common.{ℕ, ◌≡◌, ◌+◌, List, [], ◌∷◌, length, fold, max, ap, ◌∙◌, arith}
+use Rattle.std.specs.List.{enumerate_from}
+use Rattle.mlt_tree.specs.GroupWords.{CountsWords}
 use Rattle.mlt_tree.proofs.Kept.{words_kept}
 
--- the same of a list of words with their places
-abbrev behind_words : ℕ → List (ℕ × List ℕ) → ℕ
-behind_words n words = fold (λ most word. behind most word.0) n words
-
-of_props : (n : ℕ) (props : List Prop) → fold (λ most prop. behind most prop.place) n props ≡ behind_words n (map prop_word props)
-of_props n [] = refl
-of_props n (prop ∷ props) = of_props (behind n prop.place) props
-
-of_own : (n : ℕ) (g : Group) (row : Option Row) → behind n (cond (has_argument row) (g.place + 1) g.place) ≡ behind_words n (own_words_by g row)
-of_own n g None = refl
-of_own n g (Some row) = by row.argument where
-  by : (b : Bool) → behind n (cond b (g.place + 1) g.place) ≡ behind_words n ((g.place, name_of row) ∷ (cond b ((g.place + 1, g.arg) ∷ []) []))
-  by true = omega arith
-  by false = refl
-
-of_group : (n : ℕ) (g : Group) → behind_group n g ≡ behind_words n (words_of g)
-of_group n g =
-    of_props _ g.props ∙ ap (λ m. behind_words m (map prop_word g.props)) (of_own n g (row_of g.kind)) ∙ sym (fold-append _ n (own_words g) (map prop_word g.props))
-
-of_groups : (n : ℕ) (gs : List Group) → fold behind_group n gs ≡ behind_words n (flat_map words_of gs)
-of_groups n [] = refl
-of_groups n (g ∷ gs) =
-    of_groups (behind_group n g) gs ∙ ap (λ m. behind_words m (flat_map words_of gs)) (of_group n g) ∙ sym (fold-append _ n (words_of g) (flat_map words_of gs))
+-- one more than the greatest place of these words, or a number that is more
+abbrev pub behind_words : ℕ → List (ℕ × List ℕ) → ℕ
+behind_words n words = fold (λ most word. max most (word.0 + 1)) n words
 
 of_numbered : (n : ℕ) (words : List (List ℕ)) → behind_words n (enumerate_from n words) ≡ n + length words
 of_numbered n [] = omega arith
 of_numbered n (word ∷ words) =
-    let next : behind n n ≡ n + 1 = omega arith in
+    let next : max n (n + 1) ≡ n + 1 = omega arith in
     let rest = of_numbered (n + 1) words in
     ap (λ m. behind_words m (enumerate_from (n + 1) words)) next ∙ rest ∙ omega arith
 
 pub words_counted : CountsWords
 words_counted words gs h =
-    of_groups 0 gs ∙ ap (behind_words 0) (words_kept words gs h) ∙ of_numbered 0 words ∙ omega arith
+    ap (behind_words 0) (words_kept words gs h) ∙ of_numbered 0 words ∙ omega arith

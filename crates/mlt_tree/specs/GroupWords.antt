@@ -29,22 +29,9 @@ words_of group = own_words group ++ map prop_word group.props
 abbrev pub KeepsWords : Type 0
 KeepsWords = (words : List (List ℕ)) (gs : List Group) → groups words ≡ Ok gs → flat_map words_of gs ≡ enumerate_from 0 words
 
--- one more than a place, where that is more
-abbrev pub behind : ℕ → ℕ → ℕ
-behind most place = max most (place + 1)
-
--- whether a word of its own stands behind the first word of a group of this option
-abbrev pub has_argument : Option Row → Bool
-has_argument None = false
-has_argument (Some row) = row.argument
-
-abbrev pub behind_group : ℕ → Group → ℕ
-behind_group most group =
-    fold (λ n prop. behind n prop.place) (behind most (if has_argument (row_of group.kind) then group.place + 1 else group.place)) group.props
-
 -- how many words groups are made of: one more than the greatest place of a word of theirs
 abbrev pub words_in : List Group → ℕ
-words_in groups = fold behind_group 0 groups
+words_in gs = fold (λ most word. max most (word.0 + 1)) 0 (flat_map words_of gs)
 
 -- words that were read into groups are so many
 abbrev pub CountsWords : Type 0

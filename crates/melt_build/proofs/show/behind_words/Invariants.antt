@@ -1,5 +1,5 @@
 use Rattle.std.proofs.Common.{◌≡◌, ◌≤◌, drop, fold}
-use Rattle.mlt_tree.specs.GroupWords.{behind, behind_group}
+use Rattle.melt_build.specs.WordCount.{behind, behind_group}
 use Rattle.melt_build.proofs.show.behind_words.Given as goal
 
 -- behind the properties so far, and the rest
