@@ -5,7 +5,7 @@ ghost use Rattle.mlt_tree.specs.Ranges.{IsAttached, IsEntry};
 use super::*;
 use Piece::{Clip, Gap};
 use mlt_base::PlayFault::{BadClip, BadRange, BadSplit, TooFew, TooLong, TooMany};
-use mlt_base::{PlayFault, Pos, Span, Try, UnitId};
+use mlt_base::{Animation, PlayFault, Pos, Q16, Span, Try, UnitId};
 use mlt_tree::{Attached, Entry, FilterList, FilterSpec, ItemList};
 use std::alloc::{AllocError, Global};
 use std::process::Abort;
@@ -383,5 +383,42 @@ fn one_after_another(rt: HostRuntime) -> Result<(), Fail> {
         .map_err(|e| e.1)?;
     assert!(rt; are(out.as_slice(), &[Gap(7), Clip(1, 0, 0)]));
     assert!(rt; are(list.as_slice(), &[Clip(1, 1, 2)]));
+    Ok(())
+}
+
+/// Whether the clip at an index has a brightness that is half of one at its frame 12.
+fn fades(list: &Playlist, at: usize) -> bool {
+    let Some(Entry::Clip { filters, .. }) = list.entry(at) else {
+        return false;
+    };
+    match filters.item(0) {
+        Some(
+            Attached {
+                spec: FilterSpec::Brightness { level },
+                ..
+            },
+        ) => level.at(12) == Q16(32768),
+        _ => false,
+    }
+}
+
+#[test]
+fn copies_keep_the_filters(rt: HostRuntime) -> Result<(), Fail> {
+    let alloc = rt.alloc();
+    let mut list = start(alloc)?;
+    let Ok(level) = Animation::read(alloc, "0=0;24=1") else {
+        return Err(Fail::new("not read"));
+    };
+    let filter = Attached {
+        spec: FilterSpec::Brightness { level },
+        span: Span {
+            first: Pos(0),
+            last: Pos(4),
+        },
+    };
+    assert!(rt; list.attach(0, filter).is_ok());
+    assert!(rt; list.split(0, 1).is_ok());
+    assert!(rt; list.repeat_clip(1, 2).is_ok());
+    assert!(rt; fades(&list, 0) && fades(&list, 1) && fades(&list, 2));
     Ok(())
 }
