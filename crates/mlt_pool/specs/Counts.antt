@@ -26,6 +26,10 @@ lent_of pool class = at class pool.lent
 abbrev pub reserved_of : Counts → ℕ → ℕ
 reserved_of pool class = home_of pool class + lent_of pool class
 
+-- how many blocks are home, of all classes together
+abbrev pub all_home : Counts → ℕ
+all_home pool = sum pool.home
+
 -- how many blocks are lent, of all classes together
 abbrev pub all_lent : Counts → ℕ
 all_lent pool = sum pool.lent

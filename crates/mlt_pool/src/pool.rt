@@ -1,12 +1,13 @@
 //! The pool: the blocks of all classes, and the calls that lend them and bring them home.
 
-ghost use Rattle.std.specs.Prelude.{◌≡◌, ◌⊎◌, ◌+◌, ◌^◌, ◌<◌, ◌≤◌, length, IfSome, IfNone, OnSome, OnOk, OnErr};
+ghost use Rattle.std.specs.Prelude.{◌≡◌, ◌⊎◌, ◌+◌, ◌^◌, ◌<◌, ◌≤◌, length, map, sum, All, IfSome, IfNone, OnSome, OnOk, OnErr};
 ghost use Rattle.mlt_pool.specs.Class.{class_of};
-ghost use Rattle.mlt_pool.specs.Counts.{Counts, home_of, lent_of, all_lent, no_blocks, added, lent_out, brought, IsOneLent, IsAdded};
+ghost use Rattle.mlt_pool.specs.Counts.{Counts, home_of, lent_of, all_home, all_lent, no_blocks, added, lent_out, brought, IsOneLent, IsAdded};
 
 use crate::class::{self, GREATEST, LEAST};
 use crate::lease::Lease;
 use crate::shelf::Shelf;
+use mlt_raw::Freed;
 use std::alloc::{AllocError, Global};
 use std::array;
 use std::marker::Model;
@@ -50,8 +51,9 @@ impl Pool {
         }
     }
 
-    /// Adds `count` blocks of the class, which are home. After a refusal, which is want of memory, the
-    /// pool is as it was.
+    /// Adds `count` blocks of the class, which are home. It is refused where memory is wanting, or where
+    /// the class would have 2^32 blocks or more. The pool is then as it was, and each block that was
+    /// made is freed again.
     pub fn reserve(&mut self, class: u8, count: u32) -> Result<(), AllocError>
         requires { (12 ≤ class) × (class ≤ 28) }
         ensures ok { OnOk result (self.new ≡ added class count self.old) }
@@ -109,11 +111,57 @@ impl Pool {
         self.shelves[usize::from(class - LEAST)].count_home()
     }
 
-    /// Frees the blocks, none of which is lent.
-    pub fn close(self)
+    /// Frees the blocks, none of which is lent. It is never refused, and the receipt tells how many
+    /// blocks there were.
+    pub fn close(self) -> Freed
         requires { all_lent self ≡ 0 }
+        ensures { result ≡ all_home self }
     {
         let Pool { shelves, alloc: _ } = self;
-        drop(shelves);
+        end_all(shelves)
     }
+}
+
+/// Frees the blocks of the shelves, all of which are home.
+fn end_all(shelves: [Shelf; CLASSES]) -> Freed
+    requires { All (λ s. s.lent ≡ 0) shelves }
+    ensures { result ≡ sum (map (λ s. s.home) shelves) }
+{
+    let [
+        of_12,
+        of_13,
+        of_14,
+        of_15,
+        of_16,
+        of_17,
+        of_18,
+        of_19,
+        of_20,
+        of_21,
+        of_22,
+        of_23,
+        of_24,
+        of_25,
+        of_26,
+        of_27,
+        of_28,
+    ] = shelves;
+    of_12
+        .end()
+        .and(of_13.end())
+        .and(of_14.end())
+        .and(of_15.end())
+        .and(of_16.end())
+        .and(of_17.end())
+        .and(of_18.end())
+        .and(of_19.end())
+        .and(of_20.end())
+        .and(of_21.end())
+        .and(of_22.end())
+        .and(of_23.end())
+        .and(of_24.end())
+        .and(of_25.end())
+        .and(of_26.end())
+        .and(of_27.end())
+        .and(of_28.end())
 }

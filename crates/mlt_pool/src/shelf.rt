@@ -1,15 +1,16 @@
 //! The blocks of one class.
 
-ghost use Rattle.std.specs.Prelude.{◌≡◌, ◌+◌, ◌-◌, ◌^◌, ◌<◌, ◌≤◌, length, take, All, IfSome, IfNone, OnOk, OnErr, vec_len, vec_capacity};
+ghost use Rattle.std.specs.Prelude.{◌≡◌, ◌+◌, ◌-◌, ◌^◌, ◌<◌, ◌≤◌, length, take, All, IfSome, IfNone, IfErr, OnOk, OnErr, vec_len, vec_capacity};
 ghost use Rattle.mlt_pool.specs.Tally.{Tally};
 
 use crate::class::block_size;
-use mlt_raw::RawBlock;
+use mlt_raw::{Freed, RawBlock};
 use std::alloc::{AllocError, Global};
 use std::marker::Model;
 
 /// The blocks of one class that are home, and how many were reserved: the others are lent.
-#[derive(Drop)]
+///
+/// A shelf can't be dropped: it is spent by [`Shelf::end`].
 pub(crate) struct Shelf {
     class: u8,
     home: Vec<RawBlock>,
@@ -40,8 +41,8 @@ impl Shelf {
         }
     }
 
-    /// Adds `count` blocks that are home, and the room for them and the lent ones. After a refusal
-    /// the shelf is as it was.
+    /// Adds `count` blocks that are home, and the room for them and the lent ones. It is refused where
+    /// memory is wanting, or where there would be 2^32 blocks or more. The shelf is then as it was.
     pub(crate) fn reserve(&mut self, alloc: Global, count: u32) -> Result<(), AllocError>
         ensures class { self.new.class ≡ self.old.class }
         ensures ok { OnOk result ((self.new.home ≡ self.old.home + count) × (self.new.lent ≡ self.old.lent)) }
@@ -51,9 +52,13 @@ impl Shelf {
             return Err(AllocError);
         };
         self.home.reserve(reserved as usize - self.home.len())?;
-        add_blocks(&mut self.home, alloc, block_size(self.class), count)?;
-        self.reserved = reserved;
-        Ok(())
+        match add_blocks(&mut self.home, alloc, block_size(self.class), count) {
+            Ok(()) => {
+                self.reserved = reserved;
+                Ok(())
+            }
+            Err(undone) => Err(undone.refused),
+        }
     }
 
     /// Takes out a block that is home. None exactly where none is.
@@ -86,32 +91,77 @@ impl Shelf {
     {
         self.reserved - self.home.len() as u32
     }
+
+    /// Frees the blocks, all of which are home. It is never refused, and the receipt tells how many
+    /// there were.
+    pub(crate) fn end(self) -> Freed
+        requires { self.lent ≡ 0 }
+        ensures freed { result ≡ self.home }
+        ensures few { result < 2 ^ 32 }
+    {
+        let Shelf {
+            class: _,
+            mut home,
+            reserved: _,
+        } = self;
+        let freed = free_behind(&mut home, 0);
+        home.destroy_empty();
+        freed
+    }
+}
+
+/// What an addition that was refused tells: how many blocks it had made, each of which is freed again.
+#[derive(Drop)]
+struct Undone {
+    refused: AllocError,
+    made: u32,
+    freed: Freed,
 }
 
 /// Adds `count` blocks of `size` bytes, for which there is room. After a refusal the blocks are those
-/// that there were.
+/// that there were, and as many were freed as had been made.
 fn add_blocks(
     blocks: &mut Vec<RawBlock>,
     alloc: Global,
     size: usize,
     count: u32,
-) -> Result<(), AllocError>
+) -> Result<(), Undone>
     requires size { (1 ≤ size) × (size ≤ 2 ^ 28) }
     requires room { vec_len blocks.old + count ≤ vec_capacity blocks.old }
     requires sized { All (λ b. length b ≡ size) blocks.old.items }
     ensures ok { OnOk result ((vec_len blocks.new ≡ vec_len blocks.old + count) × All (λ b. length b ≡ size) blocks.new.items) }
     ensures err { OnErr result (blocks.new.items ≡ blocks.old.items) }
+    ensures freed { IfErr result (λ undone. (undone.freed ≡ undone.made) × (undone.made < count)) }
     ensures room { vec_capacity blocks.new ≡ vec_capacity blocks.old }
 {
     let before = blocks.len();
-    for _added in 0..count {
+    for made in 0..count {
         match RawBlock::new(alloc, size) {
             Ok(block) => blocks.push_reserved(block),
             Err(refused) => {
-                blocks.truncate(before);
-                return Err(refused);
+                let freed = free_behind(blocks, before);
+                return Err(Undone {
+                    refused,
+                    made,
+                    freed,
+                });
             }
         }
     }
     Ok(())
+}
+
+/// Frees the blocks behind the first `keep`, and keeps the room that there is. The receipt tells how
+/// many they were.
+fn free_behind(blocks: &mut Vec<RawBlock>, keep: usize) -> Freed
+    requires { keep ≤ vec_len blocks.old }
+    ensures freed { result + keep ≡ vec_len blocks.old }
+    ensures kept { blocks.new.items ≡ take keep blocks.old.items }
+    ensures room { vec_capacity blocks.new ≡ vec_capacity blocks.old }
+{
+    let mut freed = Freed::none();
+    for _place in keep..blocks.len() {
+        freed = freed.and(blocks.take_last().free());
+    }
+    freed
 }

@@ -1,8 +1,9 @@
 //! A pool as its caller sees it.
 
-ghost use Rattle.std.specs.Prelude.{◌≡◌, length};
+ghost use Rattle.std.specs.Prelude.{◌≡◌, length, IfOk};
 
 use crate::{Lease, Pool};
+use mlt_raw::Freed;
 use std::alloc::{AllocError, Global};
 use std::test::Fail;
 
@@ -68,6 +69,17 @@ fn lend_one(alloc: Global) -> Result<Told, AllocError> {
     Ok(told)
 }
 
+/// Reserves three blocks, and closes the pool.
+fn close_three(alloc: Global) -> Result<Freed, AllocError>
+    ensures { IfOk result (λ freed. freed ≡ 3) }
+{
+    let mut pool = Pool::new(alloc);
+    let reserved = pool.reserve(12, 3);
+    let freed = pool.close();
+    reserved?;
+    Ok(freed)
+}
+
 #[test]
 fn the_one_block_of_a_class_is_lent_once(rt: HostRuntime) -> Result<(), Fail> {
     let told = lend_one(rt.alloc())?;
@@ -78,5 +90,11 @@ fn the_one_block_of_a_class_is_lent_once(rt: HostRuntime) -> Result<(), Fail> {
     assert_eq!(rt; told.while_lent, (1, 0));
     assert_eq!(rt; told.written, (b'a', b'b'));
     assert_eq!(rt; told.after, (0, 1));
+    Ok(())
+}
+
+#[test]
+fn closing_frees_the_blocks_that_were_reserved(rt: HostRuntime) -> Result<(), Fail> {
+    let _freed = close_three(rt.alloc())?;
     Ok(())
 }

@@ -3,14 +3,15 @@
 ghost use Rattle.std.specs.Prelude.{◌≡◌, ◌^◌, ◌≤◌, Option, Some, None, replicate, length, take, IfOk};
 ghost use Rattle.std.specs.Borrow.{sem};
 
-use crate::cells::{Base, Cells, Deed, allocate, deallocate};
+use crate::cells::{self, Base, Cells, Deed, Freed, allocate};
 use std::alloc::{AllocError, Global};
 use std::marker::Model;
 
-/// A block of 1 to 2^28 bytes, which never grows and is freed at its end.
+/// A block of 1 to 2^28 bytes, which never grows.
 ///
-/// Its memory is std's, which aligns it to 16 where 16 divides the size. A block may go to another
-/// thread, and threads may share it, since that is so of all that it holds.
+/// A block can't be dropped: it is spent by [`RawBlock::free`]. Its memory is std's, which aligns it
+/// to 16 where 16 divides the size. A block may go to another thread, and threads may share it, since
+/// that is so of all that it holds.
 pub struct RawBlock {
     base: Base<u8>,
     size: usize,
@@ -78,10 +79,11 @@ impl RawBlock {
         let base = self.base;
         self.cells.slice_mut(base, 0, len)
     }
-}
 
-impl Drop for RawBlock {
-    fn drop(self) {
+    /// Frees the memory of the block. It is never refused, and the receipt tells of one block.
+    pub fn free(self) -> Freed
+        ensures { result ≡ 1 }
+    {
         let RawBlock {
             base,
             size,
@@ -89,7 +91,7 @@ impl Drop for RawBlock {
             deed,
             alloc,
         } = self;
-        deallocate(&alloc, base, size, cells, deed);
+        cells::free(&alloc, base, size, cells, deed)
     }
 }
 

@@ -1,7 +1,7 @@
-//! Memory as a row of places, each empty or holding a value, and the five functions that reach it by
-//! a raw pointer.
+//! Memory as a row of places, each empty or holding a value, the five functions that reach it by a raw
+//! pointer, and the receipt of memory that was freed.
 
-ghost use Rattle.std.specs.Prelude.{◌≡◌, ℕ, ◌<◌, List, Option, Some, None, map, length, take, drop, replicate, get_or, slice_set, IfOk, ⊤};
+ghost use Rattle.std.specs.Prelude.{◌≡◌, ℕ, ◌+◌, ◌^◌, ◌<◌, List, Option, Some, None, map, length, take, drop, replicate, get_or, slice_set, IfOk, ⊤};
 ghost use Rattle.std.specs.Borrow.{sem};
 ghost use Rattle.std.specs.Vec.Ownership.{FitsInBlock};
 ghost use base.Fml.{ftrue};
@@ -94,8 +94,60 @@ pub(crate) fn allocate<T, A: Allocator>(
     }
 }
 
+/// A receipt, which tells how many blocks were freed.
+///
+/// A receipt of one block comes from [`RawBlock::free`](crate::RawBlock::free) alone, and no receipt
+/// can be copied. It may be dropped.
+#[derive(Drop)]
+pub struct Freed {
+    blocks: u64,
+}
+
+impl Model for Freed {
+    ghost use Rattle.std.specs.Prelude.{ℕ};
+
+    ghost Value = { ℕ };
+
+    ghost view = { λ f. f.blocks };
+}
+
+impl Freed {
+    /// The receipt of no block. It is never refused.
+    pub fn none() -> Freed
+        ensures { result ≡ 0 }
+    {
+        Freed { blocks: 0 }
+    }
+
+    /// One receipt of the blocks of both, which are fewer than 2^64 together. It is never refused.
+    pub fn and(self, more: Freed) -> Freed
+        requires { self + more < 2 ^ 64 }
+        ensures { result ≡ self + more }
+    {
+        Freed {
+            blocks: self.blocks + more.blocks,
+        }
+    }
+}
+
+/// Gives the memory of a block back, and alone makes a receipt of one block. A value that a place still
+/// holds is forgotten.
+pub(crate) fn free<T, A: Allocator>(
+    alloc: &A,
+    base: Base<T>,
+    len: usize,
+    cells: Cells<T>,
+    deed: Deed<T, A>,
+) -> Freed
+    requires { (cells.at ≡ base.ptr) × (length cells.slots ≡ len) × (deed.at ≡ base.ptr) × (deed.len ≡ len) × (deed.alloc ≡ alloc.now) }
+    ensures { result ≡ 1 }
+{
+    deallocate(alloc, base, len, cells, deed);
+    Freed { blocks: 1 }
+}
+
 /// Gives the memory back. A value that a place still holds is forgotten.
-pub(crate) fn deallocate<T, A: Allocator>(
+fn deallocate<T, A: Allocator>(
     alloc: &A,
     base: Base<T>,
     len: usize,
