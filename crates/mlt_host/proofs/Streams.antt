@@ -1,8 +1,9 @@
 -- Reads and writes one after the other.
-use Rattle.std.proofs.Common.{◌≡◌, ℕ, ◌+◌, ◌-◌, List, ◌++◌, Option, None, Some, length, take, drop, sym, ap, subst, ◌∙◌, append_assoc, take-append-drop}
-use Rattle.std.proofs.Math.Seq.{take-add}
+use Rattle.std.proofs.Common.{◌≡◌, ℕ, ◌+◌, ◌-◌, List, ◌++◌, Option, None, Some, length, take, drop, sym, ap, subst, ◌∙◌, append_assoc, append-nil, take-append-drop, Result, Ok, Err, OnErr}
+use Rattle.std.proofs.KnownBytes.{Appends-kept}
+use Rattle.std.proofs.Math.Seq.{take-add, take-append_seam}
 use Rattle.std.proofs.lemmas.List.{take_rest}
-use Rattle.std.specs.Io.KnownBytes.{Appends, Consumes}
+use Rattle.std.specs.Io.KnownBytes.{Appends, Consumes, Keeps}
 
 -- what two reads took is the one's bytes and then the other's
 consumes_both : (a b c : Option (List ℕ)) (first second : List ℕ) → Consumes a b first → Consumes b c second → Consumes a c (first ++ second)
@@ -29,3 +30,20 @@ pub writes_more : (a b c : Option (List ℕ)) (all done rest : List ℕ) (count 
 writes_more a b c all done rest count split wrote more =
     let parts : rest ≡ take count rest ++ take (length rest - count) (drop count rest) = sym (ap (λ l. take count rest ++ l) (take_rest rest count) ∙ take-append-drop count rest) in
     (done ++ take count rest, split ∙ ap (λ l. done ++ l) parts ∙ sym (append_assoc done _ _), appends_both a b c _ _ wrote more)
+
+-- a list of which a front was written, and nothing after it
+pub front_written : (a b c : Option (List ℕ)) (all done rest : List ℕ) → all ≡ done ++ rest → Appends a b done → Keeps b c → (kept : ℕ) × Appends a c (take kept all)
+front_written a b c all done rest split wrote stays =
+    let front : take (length done) all ≡ done = ap (take (length done)) split ∙ take-append_seam done rest in
+    (length done, subst (Appends a c) (sym front) (Appends-kept a b c done wrote stays))
+
+-- nothing was written where no byte was taken
+pub keeps_none : (a b : Option (List ℕ)) (bytes : List ℕ) (count : ℕ) → count ≡ 0 → Appends a b (take count bytes) → Keeps a b
+keeps_none None b bytes count none p = tt
+keeps_none (Some x) None bytes count none p = absurd p
+keeps_none (Some x) (Some y) bytes count none p = p ∙ ap (λ n. x ++ take n bytes) none ∙ append-nil x
+
+-- what holds of any answer holds where it is an Err
+pub on_err : {T E : Type 0} (result : Result T E) (Fact : Type 0) → Fact → OnErr result Fact
+on_err (Ok _) Fact fact = tt
+on_err (Err _) Fact fact = fact

@@ -1,5 +1,5 @@
 -- What a host in memory without failing calls tells.
-use Rattle.std.specs.Prelude.{ℕ, List, Option, Some, None, option_map, option_and_then, slice_get, if◌then◌else◌}
+use Rattle.std.specs.Prelude.{ℕ, List, Option, Some, None, option_map, option_and_then, slice_get, slice_index, if◌then◌else◌}
 use Rattle.mlt_base.specs.declared.port.Port.{Port}
 use Rattle.mlt_host.specs.declared.kept.Kept.{Kept}
 use Rattle.mlt_host.specs.declared.calm_host.CalmPort.{CalmPort}
@@ -25,6 +25,7 @@ calm_state host = record {
   port = λ port. option_and_then told_state (slice_get host.ports (index_of port));
   load_faults = host.load_faults;
   faults = λ port. 0;
+  creates = λ port. slice_index host.creates (index_of port);
 }
 
 -- what it keeps of the port

@@ -1,4 +1,4 @@
--- Numbers that count up, and what each answer adds to a count of faults.
+-- Numbers that count up, and what each answer adds to a count of faults or of creates.
 use Rattle.std.specs.Prelude.{ℕ, ◌+◌, ◌-◌, ◌^◌, min, Result, Ok, Err, Vec}
 use Rattle.std.specs.declared.alloc.Global.{Global}
 use Rattle.mlt_host.specs.declared.host.LoadFault.{LoadFault}
@@ -20,3 +20,8 @@ load_count (Err Memory) count = count
 abbrev pub port_count : {T E : Type 0} → Result T E → ℕ → ℕ
 port_count (Ok _) count = count
 port_count (Err _) count = next count
+
+-- how often the port was created after this answer of a create: an Ok counts once
+abbrev pub create_count : {T E : Type 0} → Result T E → ℕ → ℕ
+create_count (Ok _) count = next count
+create_count (Err _) count = count

@@ -1,21 +1,53 @@
--- What the host of a program tells, and where its ports go.
-use Rattle.std.specs.Prelude.{None, slice_index}
+-- What the host of a program tells, where its ports go, and what it holds.
+use Rattle.std.specs.Prelude.{◌≡◌, ◌≢◌, ◌⊎◌, ℕ, ◌<◌, List, length, Option, None, slice_index}
 use Rattle.mlt_base.specs.declared.port.Port.{Port}
 use Rattle.mlt_host.specs.declared.disk_host.DiskHost.{DiskHost}
 use Rattle.mlt_host.specs.Host.{HostState}
 use Rattle.mlt_host.specs.Ports.{index_of}
-use Rattle.mlt_host.specs.Outlet.{Place, place_at}
+use Rattle.mlt_host.specs.Outlet.{Place, FileOf, place_at, file_at, held_at}
 
--- what it tells: its counts of faults alone
-abbrev pub disk_state : {R E F D : Type 0} → DiskHost R E F D → HostState
+-- what it tells as a host: its counts alone
+abbrev pub disk_state : {D O E F : Type 0} → DiskHost D O E F → HostState
 disk_state host = record {
   files = None;
   asked = None;
   port = λ _. None;
   load_faults = host.load_faults;
   faults = λ port. slice_index host.faults (index_of port);
+  creates = λ port. slice_index host.creates (index_of port);
 }
 
+-- its disk
+abbrev pub disk_of : {D O E F : Type 0} → DiskHost D O E F → D
+disk_of host = host.disk
+
+-- what writes to standard output
+abbrev pub output_of : {D O E F : Type 0} → DiskHost D O E F → O
+output_of host = host.output
+
+-- what writes to standard error
+abbrev pub errors_of : {D O E F : Type 0} → DiskHost D O E F → E
+errors_of host = host.errors
+
 -- where the port goes
-abbrev pub disk_place : {R E F D : Type 0} → DiskHost R E F D → Port → Place
+abbrev pub disk_place : {D O E F : Type 0} → DiskHost D O E F → Port → Place
 disk_place host port = place_at host.outlets port
+
+-- the file that the port has open, where it has one
+abbrev pub disk_open : {D O E F : Type 0} → DiskHost D O E F → Port → Option F
+disk_open host port = file_at host.outlets port
+
+-- the bytes where the port goes, where they are known, by what a file, standard output and standard error tell
+abbrev pub holds : {D O E F : Type 0} → (F → Option (List ℕ)) → (O → Option (List ℕ)) → (E → Option (List ℕ)) → DiskHost D O E F → Port → Option (List ℕ)
+holds file output errors host port = held_at file (output host.output) (errors host.errors) host.outlets port
+
+-- another port has the file of that name open, or the name is too long
+abbrev pub IsTaken : {D O E F : Type 0} → DiskHost D O E F → Port → List ℕ → Type 0
+IsTaken host port name = ((other : Port) × (other ≢ port) × (disk_place host other ≡ FileOf name)) ⊎ (4096 < length name)
+
+-- nothing but its counts has changed
+pub record OnlyCounts {D O E F : Type 0} (old new : DiskHost D O E F) : Type 0 where
+  pub disk : new.disk ≡ old.disk
+  pub output : new.output ≡ old.output
+  pub errors : new.errors ≡ old.errors
+  pub outlets : new.outlets ≡ old.outlets

@@ -23,6 +23,8 @@ pub record HostState : Type 0 where
   pub load_faults : ℕ
   -- how often a create or an append on the port has met a fault
   pub faults : Port → ℕ
+  -- how often a create of the port has answered Ok
+  pub creates : Port → ℕ
 
 -- the count rose, or it stands at the last number of 64 bits
 abbrev pub Rose : ℕ → ℕ → Type 0
@@ -33,19 +35,21 @@ pub record Counts {T E : Type 0} (before now : ℕ) (result : Result T E) : Type
   pub never_falls : before ≤ now
   pub failed : OnErr result (Rose before now)
 
--- nothing but this port and its count has changed
+-- nothing but this port and its counts has changed
 pub record OnlyPort (port : Port) (old new : HostState) : Type 0 where
   pub files : new.files ≡ old.files
   pub asked : new.asked ≡ old.asked
   pub load_faults : new.load_faults ≡ old.load_faults
   pub other_ports : (other : Port) → other ≢ port → new.port other ≡ old.port other
   pub other_faults : (other : Port) → other ≢ port → new.faults other ≡ old.faults other
+  pub other_creates : (other : Port) → other ≢ port → new.creates other ≡ old.creates other
 
 -- nothing but the names asked and the count of loads has changed, and that count has not fallen
 pub record OnlyLoads (old new : HostState) : Type 0 where
   pub files : new.files ≡ old.files
   pub ports : (port : Port) → new.port port ≡ old.port port
   pub faults : (port : Port) → new.faults port ≡ old.faults port
+  pub creates : (port : Port) → new.creates port ≡ old.creates port
   pub never_falls : old.load_faults ≤ new.load_faults
 
 -- a port just created

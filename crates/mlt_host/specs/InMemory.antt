@@ -10,6 +10,7 @@ pub record IsUnused (state : HostState) : Type 0 where
   pub ports : (port : Port) → state.port port ≡ Some (created [])
   pub load_faults : state.load_faults ≡ 0
   pub faults : (port : Port) → state.faults port ≡ 0
+  pub creates : (port : Port) → state.creates port ≡ 0
 
 -- nothing but the files has changed
 pub record OnlyFiles (old new : HostState) : Type 0 where
@@ -17,3 +18,4 @@ pub record OnlyFiles (old new : HostState) : Type 0 where
   pub ports : (port : Port) → new.port port ≡ old.port port
   pub load_faults : new.load_faults ≡ old.load_faults
   pub faults : (port : Port) → new.faults port ≡ old.faults port
+  pub creates : (port : Port) → new.creates port ≡ old.creates port

@@ -11,3 +11,4 @@ pub mod DiskFile
 pub mod FileName
 pub mod Outlet
 pub mod DiskHost
+pub mod DiskInMemory

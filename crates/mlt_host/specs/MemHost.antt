@@ -25,6 +25,7 @@ mem_state host = record {
   port = λ port. option_map kept_state (slice_get host.ports (index_of port));
   load_faults = host.load_faults;
   faults = λ port. slice_index host.faults (index_of port);
+  creates = λ port. slice_index host.creates (index_of port);
 }
 
 -- what it keeps of the port

@@ -1,5 +1,5 @@
 -- Where the ports of a program go.
-use Rattle.std.specs.Prelude.{ℕ, List, if◌then◌else◌, codes}
+use Rattle.std.specs.Prelude.{ℕ, List, Option, Some, None, if◌then◌else◌, codes}
 use Rattle.std.specs.Str.{bytes_eq}
 use Rattle.mlt_base.specs.declared.port.Port.{Port}
 use Rattle.mlt_base.specs.declared.port.Port.TheVariants.{Video, Audio, Script, Text}
@@ -32,6 +32,40 @@ place_at outlets Video = outlet_place outlets.video
 place_at outlets Audio = outlet_place outlets.audio
 place_at outlets Script = outlet_place outlets.script
 place_at outlets Text = StandardError
+
+-- the file that is open, where one is
+abbrev pub sink_file : {F : Type 0} → Sink F → Option F
+sink_file Nowhere = None
+sink_file Output = None
+sink_file (Open file) = Some file
+
+-- the file that the outlet has open, where it has one
+abbrev pub outlet_file : {F : Type 0} → Outlet F → Option F
+outlet_file outlet = sink_file outlet.sink
+
+-- the file that the port has open, where it has one
+abbrev pub file_at : {F : Type 0} → Outlets F → Port → Option F
+file_at outlets Video = outlet_file outlets.video
+file_at outlets Audio = outlet_file outlets.audio
+file_at outlets Script = outlet_file outlets.script
+file_at outlets Text = None
+
+-- the bytes where it goes, where they are known: those of standard output, or of the file
+abbrev pub sink_holds : {F : Type 0} → (F → Option (List ℕ)) → Option (List ℕ) → Sink F → Option (List ℕ)
+sink_holds contents output Nowhere = None
+sink_holds contents output Output = output
+sink_holds contents output (Open file) = contents file
+
+-- the bytes where the outlet goes, where they are known
+abbrev pub outlet_holds : {F : Type 0} → (F → Option (List ℕ)) → Option (List ℕ) → Outlet F → Option (List ℕ)
+outlet_holds contents output outlet = sink_holds contents output outlet.sink
+
+-- the bytes where the port goes, where they are known, by those of a file, of standard output and of standard error
+abbrev pub held_at : {F : Type 0} → (F → Option (List ℕ)) → Option (List ℕ) → Option (List ℕ) → Outlets F → Port → Option (List ℕ)
+held_at contents output errors outlets Video = outlet_holds contents output outlets.video
+held_at contents output errors outlets Audio = outlet_holds contents output outlets.audio
+held_at contents output errors outlets Script = outlet_holds contents output outlets.script
+held_at contents output errors outlets Text = errors
 
 -- where a name leads
 abbrev pub named_place : List ℕ → Place

@@ -3,7 +3,7 @@
 ghost use Rattle.std.specs.Prelude.{◌≡◌, ◌⊎◌, [], List, ℕ, length, None, Some, IfSome, IfNone, IsSomeAnd, IsOk, OnOk, OnErr};
 
 use crate::kept::Kept;
-use crate::ports::{PORTS, index_of};
+use crate::ports::{PORTS, count_up, index_of};
 use crate::{Failed, Host, LoadFault, Port, files};
 use std::alloc::{AllocError, Global};
 use std::collections::BTreeMap;
@@ -27,6 +27,7 @@ pub struct CalmHost {
     asked: Vec<String>,
     ports: [CalmPort; PORTS],
     load_faults: u64,
+    creates: [u64; PORTS],
 }
 
 impl CalmPort {
@@ -83,6 +84,7 @@ impl CalmHost {
                 CalmPort::new(alloc),
             ],
             load_faults: 0,
+            creates: [0; PORTS],
         }
     }
 
@@ -114,7 +116,7 @@ impl Host for CalmHost {
     ghost use Rattle.mlt_host.specs.Host.{created, appended, Counts, OnlyPort, OnlyLoads, Appends, AppendsFront, asked_after, Loads, LeavesCount};
     ghost use Rattle.mlt_host.specs.Kept.{LacksRoom, LacksNameRoom};
     ghost use Rattle.mlt_host.specs.Files.{answer_of, Answers};
-    ghost use Rattle.mlt_host.specs.Count.{load_count};
+    ghost use Rattle.mlt_host.specs.Count.{load_count, create_count};
     ghost use Rattle.mlt_host.specs.CalmHost.{calm_state, calm_file, calm_port};
 
     ghost state = { calm_state };
@@ -141,6 +143,7 @@ impl Host for CalmHost {
         ensures failed { OnErr result ((calm_state self.new).port port ≡ (calm_state self.old).port port) }
         ensures cause { Counts ((calm_state self.old).faults port) ((calm_state self.new).faults port) result }
         ensures no_fault { OnOk result ((calm_state self.new).faults port ≡ (calm_state self.old).faults port) }
+        ensures creates { (calm_state self.new).creates port ≡ create_count result ((calm_state self.old).creates port) }
         ensures rest { OnlyPort port (calm_state self.old) (calm_state self.new) }
 
         // It never fails, and leaves the port untold only where there was no room for the name.
@@ -148,6 +151,7 @@ impl Host for CalmHost {
         ensures told { ((calm_state self.new).port port ≡ Some (created name.now)) ⊎ ((calm_state self.new).port port ≡ None) × LacksNameRoom (calm_port self.old port) (length name.now) }
     {
         self.ports[index_of(port)].create(name);
+        count_up(&mut self.creates, port);
         Ok(())
     }
 
@@ -156,6 +160,7 @@ impl Host for CalmHost {
         ensures failed { OnErr result (AppendsFront port (calm_state self.old) (calm_state self.new) bytes.now) }
         ensures cause { Counts ((calm_state self.old).faults port) ((calm_state self.new).faults port) result }
         ensures no_fault { OnOk result ((calm_state self.new).faults port ≡ (calm_state self.old).faults port) }
+        ensures creates { (calm_state self.new).creates port ≡ (calm_state self.old).creates port }
         ensures rest { OnlyPort port (calm_state self.old) (calm_state self.new) }
 
         // It never fails, and leaves a told port untold only where there was no room for the piece.

@@ -1,15 +1,13 @@
 //! Files and streams, read and written whole by std's read and write.
 
-ghost use Rattle.std.specs.Prelude.{◌≡◌, ◌+◌, ◌<◌, ◌≤◌, length, take, drop, vec_len, IfOk, IfErr, OnOk, ◌⊎◌, ◌^◌};
+ghost use Rattle.std.specs.Prelude.{◌≡◌, ℕ, ◌+◌, ◌<◌, ◌≤◌, length, take, drop, vec_len, IfOk, IfErr, OnOk, OnErr, ◌⊎◌, ◌^◌};
 ghost use Rattle.std.specs.Io.{ReadsAtMost, WritesAtMost};
 ghost use Rattle.std.specs.Io.KnownBytes.{Appends, Consumes, IsAtEnd, ReadConsumes, WriteAppends};
-ghost use Rattle.mlt_host.specs.DiskFile.{IsReadWithin, IsReadOf};
+ghost use Rattle.mlt_host.specs.DiskFile.{IsReadOf, IsLoadOf};
 
-use crate::{Failed, LoadFault};
+use crate::{Disk, Failed, LoadFault};
 use std::alloc::Global;
-use std::fs::{File, OpenFile};
 use std::io::{ErrorKind, Read, Write};
-use std::rt::Files;
 
 /// How many bytes a read asks for at least, where the list has to grow for it and the limit allows.
 const CHUNK: usize = 65_536;
@@ -109,21 +107,22 @@ fn read_whole<F: Read>(
 }
 
 /// Opens the file of that name and reads it. `Missing` where there is none.
-pub(crate) fn read_file<R: Files>(
+pub(crate) fn read_file<D: Disk>(
     alloc: Global,
-    rt: &R,
+    disk: &D,
     name: &str,
     limit: u64,
 ) -> Result<Vec<u8>, LoadFault>
-    ensures answer { IsReadWithin result limit }
+    ensures { IsLoadOf result limit (D.reads disk.now name.now) (D.lacks disk.now name.now) D.File.remaining }
 {
-    match File::open(rt, name) {
+    match disk.open(name) {
         Ok(mut file) => {
-            let expected = file.metadata().map_or(0, |facts| facts.len());
+            let expected = disk.expected(&file);
             read_whole(alloc, &mut file, expected, limit)
         }
-        Err(error) if error.kind() == ErrorKind::NotFound => Err(LoadFault::Missing),
-        Err(_) => Err(LoadFault::Failed),
+        Err(LoadFault::Missing) => Err(LoadFault::Missing),
+        Err(LoadFault::Memory) => Err(LoadFault::Memory),
+        Err(LoadFault::Failed | LoadFault::TooLarge(_)) => Err(LoadFault::Failed),
     }
 }
 
@@ -142,9 +141,11 @@ fn write_some<W: Write>(to: &mut W, bytes: &[u8]) -> Result<usize, Failed>
     Err(Failed)
 }
 
-/// Writes all the bytes, and flushes. A write that takes nothing is a fault.
+/// Writes all the bytes, and flushes. `Failed` where a write fails or takes nothing; a front of the bytes
+/// was then written.
 pub(crate) fn write_whole<W: Write>(to: &mut W, bytes: &[u8]) -> Result<(), Failed>
-    ensures { OnOk result (Appends (W.contents to.old) (W.contents to.new) bytes.now) }
+    ensures written { OnOk result (Appends (W.contents to.old) (W.contents to.new) bytes.now) }
+    ensures front { OnErr result ((kept : ℕ) × Appends (W.contents to.old) (W.contents to.new) (take kept bytes.now)) }
 {
     let mut rest = bytes;
     for _ in 0..u64::MAX {

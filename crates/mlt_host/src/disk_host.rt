@@ -1,62 +1,101 @@
-//! The host of a program: files of the file system, standard output and standard error.
+//! The host of a program: files of a disk, standard output and standard error.
 //!
-//! This is where the proofs end. What a file holds, and what becomes of the bytes that are written, no
-//! contract can say: `DiskHost` tells nothing but its counts of faults.
+//! To those that use it as a `Host` it tells nothing but its counts. Its own clauses say what it does by
+//! what the disk and its files tell, and by what the two other writers hold.
+
+ghost use Rattle.std.specs.Prelude.{◌≡◌, ◌≢◌, ◌⊎◌, ◌<◌, ℕ, length, take, IfSome, IsOk, IsErr, OnOk, OnErr, option_copied, codes};
+ghost use Rattle.mlt_base.specs.declared.port.Port.{Port};
 
 use crate::disk_file::read_file;
 use crate::outlet::Outlets;
-use crate::ports::{PORTS, count_fault};
-use crate::{Failed, Host, LoadFault, Port, outlet};
+use crate::ports::{PORTS, count_up};
+use crate::{Disk, Failed, Host, LoadFault, Port, outlet};
 use std::alloc::Global;
-use std::rt::Files;
+use std::io::Write;
 
-/// The file system, standard output and standard error.
+/// The files of a disk, standard output and standard error.
 ///
 /// A `create` leads its port to the file of that name, which it empties, or to standard output where the
-/// name is `-`; `Text` goes to standard error whatever its name. Faults are, besides those of the system:
+/// name is `-`; `Text` goes to standard error whatever its name. Faults are, besides those of the disk and
+/// of the writers:
 ///
 /// - a `create` of a file that another port has open under the same name,
 /// - a `create` of a name of more than 4,096 bytes, of which the system opens no file,
 /// - an `append` to a port that was never created, but for `Text`,
 /// - a write that takes nothing.
 #[derive(Drop)]
-pub struct DiskHost<R: Files + Print + Drop, E: Print + Drop> {
-    rt: R,
+pub struct DiskHost<D: Disk + Drop, O: Write + Drop, E: Write + Drop> {
+    disk: D,
+    output: O,
     errors: E,
-    outlets: Outlets<R::File>,
+    outlets: Outlets<D::File>,
     load_faults: u64,
     faults: [u64; PORTS],
+    creates: [u64; PORTS],
 }
 
-impl<R: Files + Print + Drop, E: Print + Drop> DiskHost<R, E> {
-    ghost use Rattle.std.specs.Prelude.{◌≡◌};
-    ghost use Rattle.mlt_base.specs.declared.port.Port.{Port};
+impl<D: Disk + Drop, O: Write + Drop, E: Write + Drop> DiskHost<D, O, E> {
     ghost use Rattle.mlt_host.specs.Outlet.{first_place};
-    ghost use Rattle.mlt_host.specs.DiskHost.{disk_state, disk_place};
+    ghost use Rattle.mlt_host.specs.DiskHost.{disk_state, disk_place, disk_open, disk_of, output_of, errors_of};
 
-    /// A host over a runtime, and over what writes to standard error. No port is created.
-    pub fn new(rt: R, errors: E) -> DiskHost<R, E>
+    /// A host over a disk, standard output and standard error. No port is created.
+    pub fn new(disk: D, output: O, errors: E) -> DiskHost<D, O, E>
         ensures load_faults { (disk_state result).load_faults ≡ 0 }
         ensures faults { (port : Port) → (disk_state result).faults port ≡ 0 }
+        ensures creates { (port : Port) → (disk_state result).creates port ≡ 0 }
         ensures places { (port : Port) → disk_place result port ≡ first_place port }
+        ensures disk { disk_of result ≡ disk }
+        ensures output { output_of result ≡ output }
+        ensures errors { errors_of result ≡ errors }
     {
         DiskHost {
-            rt,
+            disk,
+            output,
             errors,
             outlets: Outlets::new(),
             load_faults: 0,
             faults: [0; PORTS],
+            creates: [0; PORTS],
         }
+    }
+
+    /// The file that the port has open; None where it was never created, where it goes to standard output,
+    /// and for `Text`.
+    pub fn file_of(&self, port: Port) -> Option<&D::File>
+        ensures { option_copied result ≡ disk_open self.now port }
+    {
+        self.outlets.file_of(port)
+    }
+
+    /// The disk.
+    pub fn disk(&self) -> &D
+        ensures { result.now ≡ disk_of self.now }
+    {
+        &self.disk
+    }
+
+    /// What writes to standard output.
+    pub fn output(&self) -> &O
+        ensures { result.now ≡ output_of self.now }
+    {
+        &self.output
+    }
+
+    /// What writes to standard error.
+    pub fn errors(&self) -> &E
+        ensures { result.now ≡ errors_of self.now }
+    {
+        &self.errors
     }
 }
 
-impl<R: Files + Print + Drop, E: Print + Drop> Host for DiskHost<R, E> {
-    ghost use Rattle.std.specs.Prelude.{◌≡◌, ◌≢◌, IfSome, IsOk, IsErr, OnOk, OnErr, codes};
-    ghost use Rattle.mlt_base.specs.declared.port.Port.{Port};
+impl<D: Disk + Drop, O: Write + Drop, E: Write + Drop> Host for DiskHost<D, O, E> {
+    ghost use Rattle.std.specs.Io.KnownBytes.{Appends as Adds};
     ghost use Rattle.mlt_host.specs.Host.{created, Counts, OnlyPort, OnlyLoads, Appends, AppendsFront, asked_after, Loads, LeavesCount};
-    ghost use Rattle.mlt_host.specs.Count.{load_count, port_count};
-    ghost use Rattle.mlt_host.specs.Outlet.{NoPlace, FileOf, place_after};
-    ghost use Rattle.mlt_host.specs.DiskHost.{disk_state, disk_place};
+    ghost use Rattle.mlt_host.specs.Count.{load_count, port_count, create_count};
+    ghost use Rattle.mlt_host.specs.Outlet.{NoPlace, StandardOutput, FileOf, place_after};
+    ghost use Rattle.mlt_host.specs.DiskFile.{IsLoadOf};
+    ghost use Rattle.mlt_host.specs.DiskHost.{disk_state, disk_place, disk_open, disk_of, output_of, errors_of, holds, OnlyCounts, IsTaken};
 
     ghost state = { λ host. disk_state host };
 
@@ -66,10 +105,12 @@ impl<R: Files + Print + Drop, E: Print + Drop> Host for DiskHost<R, E> {
         ensures no_fault { LeavesCount result (disk_state self.old).load_faults (disk_state self.new).load_faults }
         ensures rest { OnlyLoads (disk_state self.old) (disk_state self.new) }
 
+        // The bytes are all that the file had left which an open of the name gave.
+        ensures bytes { IsLoadOf result limit (D.reads (disk_of self.old) name.now) (D.lacks (disk_of self.old) name.now) D.File.remaining }
         ensures count { (disk_state self.new).load_faults ≡ load_count result (disk_state self.old).load_faults }
-        ensures places { (port : Port) → disk_place self.new port ≡ disk_place self.old port }
+        ensures only { OnlyCounts self.old self.new }
     {
-        let loaded = read_file(alloc, &self.rt, name, limit);
+        let loaded = read_file(alloc, &self.disk, name, limit);
         if let Err(LoadFault::Missing | LoadFault::Failed) = loaded {
             self.load_faults = self.load_faults.saturating_add(1);
         }
@@ -81,6 +122,7 @@ impl<R: Files + Print + Drop, E: Print + Drop> Host for DiskHost<R, E> {
         ensures failed { OnErr result ((disk_state self.new).port port ≡ (disk_state self.old).port port) }
         ensures cause { Counts ((disk_state self.old).faults port) ((disk_state self.new).faults port) result }
         ensures no_fault { OnOk result ((disk_state self.new).faults port ≡ (disk_state self.old).faults port) }
+        ensures creates { (disk_state self.new).creates port ≡ create_count result ((disk_state self.old).creates port) }
         ensures rest { OnlyPort port (disk_state self.old) (disk_state self.new) }
 
         // No two ports have a file of the same name open.
@@ -89,13 +131,28 @@ impl<R: Files + Print + Drop, E: Print + Drop> Host for DiskHost<R, E> {
         ensures unmoved { OnErr result (disk_place self.new port ≡ disk_place self.old port) }
         ensures others { (other : Port) → other ≢ port → disk_place self.new other ≡ disk_place self.old other }
 
+        // The port has the file that one create of the disk gave; it fails only where the disk refuses the
+        // name, where another port has it, and where it is too long.
+        ensures opened { OnOk result (IfSome (disk_open self.new port) (λ file. D.writes (disk_of self.old) name.now file (disk_of self.new))) }
+        ensures why { OnErr result (IsTaken self.old port name.now × (disk_of self.new ≡ disk_of self.old) ⊎ D.refuses (disk_of self.old) name.now (disk_of self.new)) }
+        ensures idle { name.now ≡ codes "-" → disk_of self.new ≡ disk_of self.old }
+        ensures idle_text { port ≡ Port.Text → disk_of self.new ≡ disk_of self.old }
+        ensures unopened { OnErr result (disk_open self.new port ≡ disk_open self.old port) }
+        ensures files { (other : Port) → other ≢ port → disk_open self.new other ≡ disk_open self.old other }
+        ensures output_stays { output_of self.new ≡ output_of self.old }
+        ensures errors_stay { errors_of self.new ≡ errors_of self.old }
+
         ensures text { port ≡ Port.Text → IsOk result }
+        ensures output { name.now ≡ codes "-" → IsOk result }
         ensures count { (disk_state self.new).faults port ≡ port_count result ((disk_state self.old).faults port) }
     {
-        match outlet::create(&self.rt, &mut self.outlets, port, name) {
-            Ok(()) => Ok(()),
+        match outlet::create(&mut self.disk, &mut self.outlets, port, name) {
+            Ok(()) => {
+                count_up(&mut self.creates, port);
+                Ok(())
+            }
             Err(Failed) => {
-                count_fault(&mut self.faults, port);
+                count_up(&mut self.faults, port);
                 Err(Failed)
             }
         }
@@ -106,19 +163,32 @@ impl<R: Files + Print + Drop, E: Print + Drop> Host for DiskHost<R, E> {
         ensures failed { OnErr result (AppendsFront port (disk_state self.old) (disk_state self.new) bytes.now) }
         ensures cause { Counts ((disk_state self.old).faults port) ((disk_state self.new).faults port) result }
         ensures no_fault { OnOk result ((disk_state self.new).faults port ≡ (disk_state self.old).faults port) }
+        ensures creates { (disk_state self.new).creates port ≡ (disk_state self.old).creates port }
         ensures rest { OnlyPort port (disk_state self.old) (disk_state self.new) }
+
+        // What the port goes to holds the bytes behind those from before, once; or a front of them.
+        ensures written { OnOk result (Adds (holds D.File.contents O.contents E.contents self.old port) (holds D.File.contents O.contents E.contents self.new port) bytes.now) }
+        ensures front { OnErr result ((kept : ℕ) × Adds (holds D.File.contents O.contents E.contents self.old port) (holds D.File.contents O.contents E.contents self.new port) (take kept bytes.now)) }
+        ensures files { (other : Port) → other ≢ port → disk_open self.new other ≡ disk_open self.old other }
+        ensures output { disk_place self.old port ≢ StandardOutput → output_of self.new ≡ output_of self.old }
+        ensures errors { port ≢ Port.Text → errors_of self.new ≡ errors_of self.old }
+        ensures disk { disk_of self.new ≡ disk_of self.old }
 
         ensures count { (disk_state self.new).faults port ≡ port_count result ((disk_state self.old).faults port) }
         // A port that was never created has nowhere to go.
         ensures nowhere { disk_place self.old port ≡ NoPlace → IsErr result }
         ensures places { (each : Port) → disk_place self.new each ≡ disk_place self.old each }
     {
-        match outlet::append(&self.rt, &self.errors, &mut self.outlets, port, bytes) {
-            Ok(()) => Ok(()),
-            Err(Failed) => {
-                count_fault(&mut self.faults, port);
-                Err(Failed)
-            }
+        let appended = outlet::append(
+            &mut self.outlets,
+            &mut self.output,
+            &mut self.errors,
+            port,
+            bytes,
+        );
+        if appended.is_err() {
+            count_up(&mut self.faults, port);
         }
+        appended
     }
 }

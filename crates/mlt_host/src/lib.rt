@@ -1,15 +1,18 @@
-//! The outside of a run: the files that it loads, the ports that it writes, and how often each of them
-//! has failed.
+//! The outside of a run: the files that it loads, the ports that it writes, how often each of them has
+//! failed, and how often each port was created.
 //!
 //! Only `mlt_base` stands below this crate. What builds a composition loads files by a `Host`, and what
-//! plays one writes its ports; neither knows which host it has. `DiskHost` is the one of a program,
-//! `MemHost` and `CalmHost` keep all in memory, for tests and for proofs over every fault. Start reading
-//! at [`host`].
+//! plays one writes its ports; neither knows which host it has. `DiskHost` is the one of a program, over
+//! the files of a `Disk`: `SystemDisk` has those of the system, and the disk of [`disk_in_memory`] is for
+//! tests. `MemHost` and `CalmHost` keep all in memory, for tests and for proofs over every fault. Start
+//! reading at [`host`].
 #![tactic(auto)]
 
 pub mod calm_host;
+pub mod disk;
 mod disk_file;
 pub mod disk_host;
+pub mod disk_in_memory;
 mod failures;
 mod file_name;
 mod files;
@@ -18,12 +21,17 @@ mod kept;
 pub mod mem_host;
 mod outlet;
 mod ports;
+pub mod system_disk;
 
 pub use calm_host::CalmHost;
+pub use disk::Disk;
 pub use disk_host::DiskHost;
 pub use host::{Failed, Host, LoadFault};
 pub use mem_host::MemHost;
 pub use mlt_base::Port;
+pub use system_disk::SystemDisk;
 
+#[cfg(test)]
+mod disk_tests;
 #[cfg(test)]
 mod tests;

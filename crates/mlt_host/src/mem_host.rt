@@ -4,7 +4,7 @@ ghost use Rattle.std.specs.Prelude.{◌≡◌, ◌++◌, [], ◌∷◌, List, �
 
 use crate::failures::{Failure, failure_at};
 use crate::kept::Kept;
-use crate::ports::{PORTS, count_fault, index_of};
+use crate::ports::{PORTS, count_up, index_of};
 use crate::{Failed, Host, LoadFault, Port, files};
 use std::alloc::{AllocError, Global};
 use std::collections::BTreeMap;
@@ -22,6 +22,7 @@ pub struct MemHost {
     calls: u64,
     load_faults: u64,
     faults: [u64; PORTS],
+    creates: [u64; PORTS],
     failures: Vec<Failure>,
 }
 
@@ -49,6 +50,7 @@ impl MemHost {
             calls: 0,
             load_faults: 0,
             faults: [0; PORTS],
+            creates: [0; PORTS],
             failures: Vec::new(alloc),
         }
     }
@@ -96,7 +98,7 @@ impl Host for MemHost {
     ghost use Rattle.mlt_host.specs.Host.{created, appended, Counts, OnlyPort, OnlyLoads, Appends, AppendsFront, asked_after, Loads, LeavesCount};
     ghost use Rattle.mlt_host.specs.Kept.{LacksRoom, LacksNameRoom};
     ghost use Rattle.mlt_host.specs.Files.{Answers};
-    ghost use Rattle.mlt_host.specs.Count.{load_count, port_count};
+    ghost use Rattle.mlt_host.specs.Count.{load_count, port_count, create_count};
     ghost use Rattle.mlt_host.specs.MemHost.{mem_state, mem_port, next_failure, load_answer, TakesNumber, KeepsFront};
 
     ghost state = { mem_state };
@@ -131,6 +133,7 @@ impl Host for MemHost {
         ensures failed { OnErr result ((mem_state self.new).port port ≡ (mem_state self.old).port port) }
         ensures cause { Counts ((mem_state self.old).faults port) ((mem_state self.new).faults port) result }
         ensures no_fault { OnOk result ((mem_state self.new).faults port ≡ (mem_state self.old).faults port) }
+        ensures creates { (mem_state self.new).creates port ≡ create_count result ((mem_state self.old).creates port) }
         ensures rest { OnlyPort port (mem_state self.old) (mem_state self.new) }
 
         // The calls that are to fail do, and another fails only where there was no room for the name.
@@ -143,9 +146,12 @@ impl Host for MemHost {
         let failure = failure_at(&self.failures, self.calls);
         self.calls = self.calls.saturating_add(1);
         match self.ports[index_of(port)].create_unless(failure, name) {
-            Ok(()) => Ok(()),
+            Ok(()) => {
+                count_up(&mut self.creates, port);
+                Ok(())
+            }
             Err(Failed) => {
-                count_fault(&mut self.faults, port);
+                count_up(&mut self.faults, port);
                 Err(Failed)
             }
         }
@@ -156,6 +162,7 @@ impl Host for MemHost {
         ensures failed { OnErr result (AppendsFront port (mem_state self.old) (mem_state self.new) bytes.now) }
         ensures cause { Counts ((mem_state self.old).faults port) ((mem_state self.new).faults port) result }
         ensures no_fault { OnOk result ((mem_state self.new).faults port ≡ (mem_state self.old).faults port) }
+        ensures creates { (mem_state self.new).creates port ≡ (mem_state self.old).creates port }
         ensures rest { OnlyPort port (mem_state self.old) (mem_state self.new) }
 
         // The calls that are to fail do, and keep the front of the piece. Another fails only where there
@@ -172,7 +179,7 @@ impl Host for MemHost {
         match self.ports[index_of(port)].append_unless(failure, bytes) {
             Ok(()) => Ok(()),
             Err(Failed) => {
-                count_fault(&mut self.faults, port);
+                count_up(&mut self.faults, port);
                 Err(Failed)
             }
         }

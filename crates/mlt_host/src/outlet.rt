@@ -1,15 +1,14 @@
 //! Where the ports of a program go: nowhere, to standard output or to a file.
 
-ghost use Rattle.std.specs.Prelude.{◌≡◌, ◌≢◌, ◌↔◌, IsTrue, IsOk, IsErr, OnOk, OnErr, codes};
+ghost use Rattle.std.specs.Prelude.{◌≡◌, ◌≢◌, ◌↔◌, ◌⊎◌, ◌<◌, ℕ, length, take, IsTrue, IsOk, IsErr, IfSome, OnOk, OnErr, option_copied, codes};
+ghost use Rattle.std.specs.Io.KnownBytes.{Appends};
 ghost use Rattle.mlt_base.specs.declared.port.Port.{Port};
-ghost use Rattle.mlt_host.specs.Outlet.{NoPlace, FileOf, outlet_place, place_at, named_place, first_place, place_after};
+ghost use Rattle.mlt_host.specs.Outlet.{NoPlace, StandardOutput, FileOf, outlet_place, outlet_file, outlet_holds, place_at, file_at, held_at, named_place, first_place, place_after};
 
 use crate::disk_file::write_whole;
 use crate::file_name::FileName;
-use crate::{Failed, Port};
-use std::fs::File;
-use std::io;
-use std::rt::Files;
+use crate::{Disk, Failed, Port};
+use std::io::Write;
 
 /// The name of standard output.
 const OUTPUT: &str = "-";
@@ -60,6 +59,16 @@ impl<F> Outlet<F> {
             Sink::Nowhere | Sink::Output => false,
         }
     }
+
+    /// The file that is open here, where one is.
+    fn file(&self) -> Option<&F>
+        ensures { option_copied result ≡ outlet_file self.now }
+    {
+        match &self.sink {
+            Sink::Open(file) => Some(file),
+            Sink::Nowhere | Sink::Output => None,
+        }
+    }
 }
 
 impl<F> Outlets<F> {
@@ -73,21 +82,38 @@ impl<F> Outlets<F> {
             script: Outlet::new(),
         }
     }
+
+    /// The file that the port has open, where it has one.
+    pub(crate) fn file_of(&self, port: Port) -> Option<&F>
+        ensures { option_copied result ≡ file_at self.now port }
+    {
+        match port {
+            Port::Video => self.video.file(),
+            Port::Audio => self.audio.file(),
+            Port::Script => self.script.file(),
+            Port::Text => None,
+        }
+    }
 }
 
 /// Leads the outlet to standard output, or to the file of that name, which it empties. `Failed` where
-/// another has that file open, and where the file can't be opened; the outlet is then as before.
-fn lead<R: Files>(
-    rt: &R,
-    outlet: &mut Outlet<R::File>,
-    second: &Outlet<R::File>,
-    third: &Outlet<R::File>,
+/// another has that file open, where the name is too long, and where the disk refuses it; the outlet is
+/// then as before.
+fn lead<D: Disk>(
+    disk: &mut D,
+    outlet: &mut Outlet<D::File>,
+    second: &Outlet<D::File>,
+    third: &Outlet<D::File>,
     name: &str,
 ) -> Result<(), Failed>
     ensures ok { OnOk result (outlet_place outlet.new ≡ named_place name.now) }
     ensures err { OnErr result (outlet.new ≡ outlet.old) }
     ensures second { outlet_place second.now ≡ FileOf name.now → name.now ≢ codes "-" → IsErr result }
     ensures third { outlet_place third.now ≡ FileOf name.now → name.now ≢ codes "-" → IsErr result }
+    ensures opened { OnOk result (IfSome (outlet_file outlet.new) (λ file. D.writes disk.old name.now file disk.new)) }
+    ensures why { OnErr result (((outlet_place second.now ≡ FileOf name.now) ⊎ (outlet_place third.now ≡ FileOf name.now) ⊎ (4096 < length name.now)) × (disk.new ≡ disk.old) ⊎ D.refuses disk.old name.now disk.new) }
+    ensures output { name.now ≡ codes "-" → IsOk result }
+    ensures idle { name.now ≡ codes "-" → disk.new ≡ disk.old }
 {
     if name == OUTPUT {
         outlet.sink = Sink::Output;
@@ -99,9 +125,7 @@ fn lead<R: Files>(
     let Some(file_name) = FileName::of(name) else {
         return Err(Failed);
     };
-    let Ok(file) = File::create(rt, name) else {
-        return Err(Failed);
-    };
+    let file = disk.create(name)?;
     outlet.name = file_name;
     outlet.sink = Sink::Open(file);
     Ok(())
@@ -109,36 +133,43 @@ fn lead<R: Files>(
 
 /// Creates the port: it goes to standard output where the name is `-`, and else to the file of that
 /// name, which is emptied. `Failed` where another port has that file open, so that no two write over
-/// each other, and where the file can't be opened; the port then goes where it went before.
-pub(crate) fn create<R: Files>(
-    rt: &R,
-    outlets: &mut Outlets<R::File>,
+/// each other, where the name is too long, and where the disk refuses it; the port then goes where it
+/// went before.
+pub(crate) fn create<D: Disk>(
+    disk: &mut D,
+    outlets: &mut Outlets<D::File>,
     port: Port,
     name: &str,
 ) -> Result<(), Failed>
     ensures text { port ≡ Port.Text → IsOk result }
+    ensures output { name.now ≡ codes "-" → IsOk result }
     ensures ok { OnOk result (place_at outlets.new port ≡ place_after port name.now) }
     ensures err { OnErr result (outlets.new ≡ outlets.old) }
     ensures others { (other : Port) → other ≢ port → place_at outlets.new other ≡ place_at outlets.old other }
+    ensures files { (other : Port) → other ≢ port → file_at outlets.new other ≡ file_at outlets.old other }
     ensures apart { (other : Port) → other ≢ port → port ≢ Port.Text → name.now ≢ codes "-" → place_at outlets.old other ≡ FileOf name.now → IsErr result }
+    ensures opened { OnOk result (IfSome (file_at outlets.new port) (λ file. D.writes disk.old name.now file disk.new)) }
+    ensures why { OnErr result ((((other : Port) × (other ≢ port) × (place_at outlets.old other ≡ FileOf name.now)) ⊎ (4096 < length name.now)) × (disk.new ≡ disk.old) ⊎ D.refuses disk.old name.now disk.new) }
+    ensures idle { name.now ≡ codes "-" → disk.new ≡ disk.old }
+    ensures idle_text { port ≡ Port.Text → disk.new ≡ disk.old }
 {
     match port {
         Port::Video => lead(
-            rt,
+            disk,
             &mut outlets.video,
             &outlets.audio,
             &outlets.script,
             name,
         ),
         Port::Audio => lead(
-            rt,
+            disk,
             &mut outlets.audio,
             &outlets.video,
             &outlets.script,
             name,
         ),
         Port::Script => lead(
-            rt,
+            disk,
             &mut outlets.script,
             &outlets.video,
             &outlets.audio,
@@ -148,38 +179,47 @@ pub(crate) fn create<R: Files>(
     }
 }
 
-/// Writes all the bytes to where the outlet goes. `Failed` where that is nowhere, and where a write fails.
-fn write_to<R: Files + Print>(
-    rt: &R,
-    outlet: &mut Outlet<R::File>,
+/// Writes all the bytes to where the outlet goes. `Failed` where that is nowhere, and where a write
+/// fails; a front of the bytes was then written.
+fn write_to<F: Write, O: Write>(
+    outlet: &mut Outlet<F>,
+    output: &mut O,
     bytes: &[u8],
 ) -> Result<(), Failed>
     ensures nowhere { outlet_place outlet.old ≡ NoPlace → IsErr result }
     ensures place { outlet_place outlet.new ≡ outlet_place outlet.old }
+    ensures written { OnOk result (Appends (outlet_holds F.contents (O.contents output.old) outlet.old) (outlet_holds F.contents (O.contents output.new) outlet.new) bytes.now) }
+    ensures front { OnErr result ((kept : ℕ) × Appends (outlet_holds F.contents (O.contents output.old) outlet.old) (outlet_holds F.contents (O.contents output.new) outlet.new) (take kept bytes.now)) }
+    ensures output { outlet_place outlet.old ≢ StandardOutput → output.new ≡ output.old }
 {
     match &mut outlet.sink {
         Sink::Nowhere => Err(Failed),
-        Sink::Output => write_whole(&mut io::writer(rt), bytes),
+        Sink::Output => write_whole(output, bytes),
         Sink::Open(file) => write_whole(file, bytes),
     }
 }
 
-/// Writes all the bytes to where the port goes; `Text` goes to what writes to standard error. `Failed`
-/// where the port was never created, and where a write fails.
-pub(crate) fn append<R: Files + Print, E: Print>(
-    rt: &R,
-    errors: &E,
-    outlets: &mut Outlets<R::File>,
+/// Writes all the bytes to where the port goes; `Text` goes to standard error. `Failed` where the port
+/// was never created, and where a write fails; a front of the bytes was then written.
+pub(crate) fn append<F: Write, O: Write, E: Write>(
+    outlets: &mut Outlets<F>,
+    output: &mut O,
+    errors: &mut E,
     port: Port,
     bytes: &[u8],
 ) -> Result<(), Failed>
     ensures nowhere { place_at outlets.old port ≡ NoPlace → IsErr result }
     ensures places { (each : Port) → place_at outlets.new each ≡ place_at outlets.old each }
+    ensures written { OnOk result (Appends (held_at F.contents (O.contents output.old) (E.contents errors.old) outlets.old port) (held_at F.contents (O.contents output.new) (E.contents errors.new) outlets.new port) bytes.now) }
+    ensures front { OnErr result ((kept : ℕ) × Appends (held_at F.contents (O.contents output.old) (E.contents errors.old) outlets.old port) (held_at F.contents (O.contents output.new) (E.contents errors.new) outlets.new port) (take kept bytes.now)) }
+    ensures files { (other : Port) → other ≢ port → file_at outlets.new other ≡ file_at outlets.old other }
+    ensures output { place_at outlets.old port ≢ StandardOutput → output.new ≡ output.old }
+    ensures errors { port ≢ Port.Text → errors.new ≡ errors.old }
 {
     match port {
-        Port::Video => write_to(rt, &mut outlets.video, bytes),
-        Port::Audio => write_to(rt, &mut outlets.audio, bytes),
-        Port::Script => write_to(rt, &mut outlets.script, bytes),
-        Port::Text => write_whole(&mut io::writer(errors), bytes),
+        Port::Video => write_to(&mut outlets.video, output, bytes),
+        Port::Audio => write_to(&mut outlets.audio, output, bytes),
+        Port::Script => write_to(&mut outlets.script, output, bytes),
+        Port::Text => write_whole(errors, bytes),
     }
 }

@@ -1,4 +1,4 @@
-//! Arrays that have one item for each port, as the counts of faults.
+//! Arrays that have one item for each port, as the counts of faults and of creates.
 
 ghost use Rattle.std.specs.Prelude.{◌≡◌, ◌≢◌, ◌<◌, ◌≤◌, slice_index};
 ghost use Rattle.mlt_base.specs.declared.port.Port.{Port};
@@ -24,13 +24,13 @@ pub(crate) fn index_of(port: Port) -> usize
     }
 }
 
-/// Counts a fault of the port, but for a count that stands at its last value.
-pub(crate) fn count_fault(faults: &mut [u64; PORTS], port: Port)
-    ensures counted { slice_index faults.new (index_of port) ≡ next (slice_index faults.old (index_of port)) }
-    ensures never_falls { slice_index faults.old (index_of port) ≤ slice_index faults.new (index_of port) }
-    ensures rose { Rose (slice_index faults.old (index_of port)) (slice_index faults.new (index_of port)) }
-    ensures others { (other : Port) → other ≢ port → slice_index faults.new (index_of other) ≡ slice_index faults.old (index_of other) }
+/// Counts one more of the port, but for a count that stands at its last value.
+pub(crate) fn count_up(counts: &mut [u64; PORTS], port: Port)
+    ensures counted { slice_index counts.new (index_of port) ≡ next (slice_index counts.old (index_of port)) }
+    ensures never_falls { slice_index counts.old (index_of port) ≤ slice_index counts.new (index_of port) }
+    ensures rose { Rose (slice_index counts.old (index_of port)) (slice_index counts.new (index_of port)) }
+    ensures others { (other : Port) → other ≢ port → slice_index counts.new (index_of other) ≡ slice_index counts.old (index_of other) }
 {
     let place = index_of(port);
-    faults[place] = faults[place].saturating_add(1);
+    counts[place] = counts[place].saturating_add(1);
 }

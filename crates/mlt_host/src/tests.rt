@@ -1,6 +1,6 @@
 //! What no clause says: that calls succeed where memory is ample, and that files hold what was written.
 
-use crate::{CalmHost, DiskHost, Failed, Host, LoadFault, MemHost, Port};
+use crate::{CalmHost, DiskHost, Failed, Host, LoadFault, MemHost, Port, SystemDisk};
 use std::alloc::{AllocError, Global};
 use std::fs;
 use std::test::Fail;
@@ -126,7 +126,7 @@ fn a_calm_host_keeps_what_it_is_given(rt: HostRuntime) -> Result<(), Fail> {
 
 #[test]
 fn a_disk_host_reads_back_what_it_wrote(rt: HostRuntime) -> Result<(), Fail> {
-    let mut host = DiskHost::new(&rt, rt.stderr());
+    let mut host = DiskHost::new(SystemDisk::new(&rt), rt.stdout(), rt.stderr());
     assert_eq!(rt; host.append(Port::Video, b"abc"), Err(Failed));
     assert_eq!(rt; host.create(Port::Video, "disk_host_test"), Ok(()));
     assert_eq!(rt; host.create(Port::Audio, "disk_host_test"), Err(Failed));
