@@ -4,7 +4,7 @@
 #![tactic(auto)]
 
 use melt_run::{Free, melt};
-use mlt_host::DiskHost;
+use mlt_host::{DiskHost, SystemDisk};
 use std::process::ExitCode;
 use std::{env, io};
 
@@ -28,9 +28,10 @@ fn main(rt: HostRuntime) -> ExitCode {
     let Ok(words) = arguments.collect::<Vec<String>>(rt.alloc()) else {
         return without_words(&rt, io::ErrorKind::OutOfMemory);
     };
+    let output = rt.stdout();
     let errors = rt.stderr();
     let alloc = rt.alloc();
-    let mut host = DiskHost::new(rt, errors);
+    let mut host = DiskHost::new(SystemDisk::new(rt), output, errors);
     let status = melt(&(), alloc, words.as_slice(), &mut host, &Free);
     ExitCode::from(status.code())
 }

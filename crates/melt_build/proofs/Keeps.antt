@@ -12,8 +12,8 @@ use Rattle.mlt_tree.specs.declared.entry.Entry.TheVariants.{Clip, Gap}
 use Rattle.mlt_tree.specs.Ranges.{IsEntry, frames}
 use Rattle.mlt_tree.specs.Edits as edit
 use Rattle.mlt_tree.specs.Edits.{Edit, grown, frames_in, replaced, with_entry, bad_clip, cut, clip, halves, before_split}
-use Rattle.mlt_tree.specs.Units.{IsEntryBelow}
 use Rattle.mlt_playlist.specs.Playlist.{IsList}
+use Rattle.melt_build.specs.State.{IsKnown}
 use Rattle.mlt_playlist.proofs.Counts.{frames_in-part}
 use Rattle.mlt_playlist.proofs.Frames.{has_frame}
 
@@ -128,18 +128,18 @@ module _ (P : Entry → Type 0) where
         subst (All P) (edit_one part gs (replaced es at n (clip unit 0 (frames_in part - 1) [] ∷ [])) fs h).1 (keeps_replaced es (clip unit 0 (frames_in part - 1) [] ∷ []) at n all (All-cons P (clip unit 0 (frames_in part - 1) []) [] new (All-nil P)))
     by false h = absurd (not_refused _ gs fs h)
 
--- a unit is below a greater number too
-pub below_more : (n m : ℕ) → n ≤ m → (e : Entry) → IsEntryBelow n e → IsEntryBelow m e
-below_more n m h (Clip unit span filters) below = omega (arith, below)
-below_more n m h (Gap count) below = tt
+-- what is known of an entry is known with more units too
+pub known_more : (n m : ℕ) → n ≤ m → (e : Entry) → IsKnown n e → IsKnown m e
+known_more n m h (Clip unit span filters) known = record { below = omega (arith, known.below); plain = known.plain }
+known_more n m h (Gap count) known = record { below = tt; plain = tt }
 
-pub all_below_more : (n m : ℕ) (es : List Entry) → n ≤ m → All (IsEntryBelow n) es → All (IsEntryBelow m) es
-all_below_more n m es h all = All-weaker (IsEntryBelow n) (IsEntryBelow m) (below_more n m h) es all
+pub all_known_more : (n m : ℕ) (es : List Entry) → n ≤ m → All (IsKnown n) es → All (IsKnown m) es
+all_known_more n m es h all = All-weaker (IsKnown n) (IsKnown m) (known_more n m h) es all
 
--- a cut is of the same unit
-pub cut_below : (n : ℕ) (e : Entry) (a b : ℕ) → IsEntryBelow n e → IsEntryBelow n (cut e a b)
-cut_below n (Clip unit span filters) a b below = below
-cut_below n (Gap count) a b below = tt
+-- a cut is of the same unit, with the same filters
+pub cut_known : (n : ℕ) (e : Entry) (a b : ℕ) → IsKnown n e → IsKnown n (cut e a b)
+cut_known n (Clip unit span filters) a b known = record { below = known.below; plain = known.plain }
+cut_known n (Gap count) a b known = record { below = tt; plain = tt }
 
 long_enough : (at n : ℕ) (es : List Entry) → (ltb 0 n && leb (at + n) (length es)) ≡ true → 1 ≤ length (take n (drop at es))
 long_enough at n es tests =

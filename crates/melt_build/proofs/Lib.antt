@@ -1,6 +1,8 @@
-mod Composed
 mod Keeps
+mod Levels
+mod Looked
 mod Over
+mod Producers
 mod Sealed
 mod Texts
 mod Tracks

@@ -13,9 +13,12 @@ use Rattle.mlt_tree.specs.Refusing.{refuse}
 use Rattle.mlt_tree.specs.Show.{Source}
 use Rattle.mlt_tree.specs.Sources.{FitsBody}
 use Rattle.melt_build.specs.State.{FitsUnits}
-use Rattle.mlt_tree.specs.Sealing.{sealable}
-use Rattle.mlt_tree.specs.Tree.{Tree, len, weight}
-use Rattle.mlt_tree.specs.Units.{Draft, tree_of, depth_of, node_tree, tractor_of}
+use Rattle.mlt_tree.specs.Composition.{State}
+use Rattle.mlt_tree.specs.Sealing.{sealable, show_of_tree, all_units, whole_tree}
+use Rattle.mlt_tree.specs.Sealing.{seal as seal_of}
+use Rattle.mlt_tree.specs.Sizes.{weight}
+use Rattle.mlt_tree.specs.Tree.{Tree, len}
+use Rattle.mlt_tree.specs.Units.{Level, tree_of, depth_of, node_tree, tractor_of}
 use Rattle.mlt_graph.specs.declared.fault.GraphFault.{GraphFault}
 use Rattle.mlt_graph.specs.declared.fault.GraphFault.TheVariants.{NoProducer, TooDeep, TooMany, Memory}
 use Rattle.mlt_graph.specs.Seal.{seal}
@@ -51,7 +54,7 @@ tested : (count : ℕ) (us : List Node) (top : ℕ) (a b c : Bool) → nat_eq (l
 unfolding sealable
 tested count us top a b c h k l = rw (h, k, l) refl
 
-pub nothing_there : (count : ℕ) (us : List Node) (level : List Draft) → len (node_tree (tree_of us) (tractor_of level)) ≡ 0 → sealable count (us ++ tractor_of level ∷ []) (length us) ≡ refuse count cause.NoProducer
+pub nothing_there : (count : ℕ) (us : List Node) (level : Level) → len (node_tree (tree_of us) (tractor_of level)) ≡ 0 → sealable count (us ++ tractor_of level ∷ []) (length us) ≡ refuse count cause.NoProducer
 unfolding sealable
 nothing_there count us level h =
     let t : Tree = tree_of (us ++ tractor_of level ∷ []) (length us) in
@@ -59,7 +62,7 @@ nothing_there count us level h =
     rw none refl
 
 -- a tractor that is refused
-pub not_added : (count : ℕ) (us : List Node) (level : List Draft) (fault : GraphFault) → (fault ≡ NoProducer) ⊎ (fault ≡ Memory) → (fault ≡ NoProducer → len (node_tree (tree_of us) (tractor_of level)) ≡ 0) → Fails (refusal_of count fault) (sealable count (us ++ tractor_of level ∷ []) (length us))
+pub not_added : (count : ℕ) (us : List Node) (level : Level) (fault : GraphFault) → (fault ≡ NoProducer) ⊎ (fault ≡ Memory) → (fault ≡ NoProducer → len (node_tree (tree_of us) (tractor_of level)) ≡ 0) → Fails (refusal_of count fault) (sealable count (us ++ tractor_of level ∷ []) (length us))
 not_added count us level fault (inl is) none =
     subst (λ f. Fails (refusal_of count f) (sealable count (us ++ tractor_of level ∷ []) (length us))) (sym is) (nothing_there count us level (none is))
 not_added count us level fault (inr is) none =
@@ -88,7 +91,7 @@ at_least_one zero h = absurd (h refl)
 at_least_one (suc n) h = omega arith
 
 -- a tractor that is added has a frame
-pub there_is : (us : List Node) (level : List Draft) → (len (node_tree (tree_of us) (tractor_of level)) ≡ 0 → ⊥) → 1 ≤ len (tree_of (us ++ tractor_of level ∷ []) (length us))
+pub there_is : (us : List Node) (level : Level) → (len (node_tree (tree_of us) (tractor_of level)) ≡ 0 → ⊥) → 1 ≤ len (tree_of (us ++ tractor_of level ∷ []) (length us))
 there_is us level some =
     at_least_one (len (tree_of (us ++ tractor_of level ∷ []) (length us))) (λ none. some (sym (ap len (tree_of-new us (tractor_of level))) ∙ none))
 
@@ -104,3 +107,8 @@ fits_more table us u own h unit node below is = by (ltb unit (length us)) refl w
   by false outside =
       let last : unit ≡ length us = last_unit us u unit below outside in
       subst (λ n. FitsBody table n.body) (sym (is ∙ ap (λ k. get_or (us ++ u ∷ []) k node) last ∙ get_or-append_seam us u [] node)) own
+
+-- a composition that can be sealed is the show of its tree
+pub seal-tree : (count : ℕ) (s : State) → sealable count (all_units s) (length s.made.units) ≡ Ok tt → seal_of count s ≡ show_of_tree count s (whole_tree s)
+unfolding seal_of
+seal-tree count s h = ap (λ (r : Result (Unit {0}) Refusal). r >>= λ whole. show_of_tree count s (whole_tree s)) h

@@ -1,5 +1,6 @@
 pub mod Builds
 pub mod Built
+pub mod Clips
 pub mod Edited
 pub mod Given
 pub mod Loaded

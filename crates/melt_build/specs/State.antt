@@ -1,16 +1,19 @@
 -- What a composition as far as it is read means.
-use Rattle.std.specs.Prelude.{ℕ, ◌≡◌, ◌<◌, List, [], ◌∷◌, length, get_or, All}
+use Rattle.std.specs.Prelude.{ℕ, ◌≡◌, ◌<◌, List, [], length, get_or, All}
 use Rattle.std.specs.Option.{option_map}
+use Rattle.mlt_tree.specs.declared.draft.Draft.{Draft}
+use Rattle.mlt_tree.specs.declared.entry.Entry.{Entry}
 use Rattle.mlt_tree.specs.declared.node.Node.{Node}
+use Rattle.mlt_tree.specs.Clips as clip
 use Rattle.mlt_tree.specs.Composition as meaning
-use Rattle.mlt_tree.specs.Sealing.{draft_of}
 use Rattle.mlt_tree.specs.Show.{Source}
 use Rattle.mlt_tree.specs.Sources.{FitsBody}
-use Rattle.mlt_tree.specs.Units.{IsEntryBelow}
-use Rattle.mlt_graph.specs.Drafts.{last_entries}
+use Rattle.mlt_tree.specs.Unbuilt.{IsPlainEntry, IsPlainNode}
+use Rattle.mlt_tree.specs.Units.{Level, IsEntryBelow}
 use Rattle.mlt_graph.specs.Show.{profile_view, pix_of}
 use Rattle.melt_build.specs.declared.consumer.Consumer.{Consumer}
-use Rattle.melt_build.specs.declared.state.Cut.{Cut}
+use Rattle.melt_build.specs.declared.wanted.Cut.{Cut}
+use Rattle.melt_build.specs.declared.state.Made.{Made}
 use Rattle.melt_build.specs.declared.state.State.{State}
 
 abbrev pub consumer_view : Consumer → meaning.Consumer
@@ -26,26 +29,50 @@ consumer_view c = record {
   last = c.last;
 }
 
-abbrev pub cut_view : Cut → meaning.Cut
+abbrev pub cut_view : Cut → clip.Cut
 cut_view c = record { first = c.first; last = c.last }
+
+abbrev pub made_view : Made → meaning.Made
+made_view made = record { units = made.graph; sources = made.table; loaded = made.loaded; words = made.words }
 
 abbrev pub state_view : State → meaning.State
 state_view s = record {
   frames = profile_view s.profile;
+  made = made_view s.made;
+  level = s.level;
+  plant_places = s.plant_places.items;
   inherited = s.inherited.words.now;
-  track = last_entries s.level;
-  units = s.graph;
-  sources = s.table;
+  last_mix = option_map (λ unit. unit.0) s.last_mix;
   consumer = option_map consumer_view s.consumer;
 }
 
--- the table has the source of each unit that is one
+-- ---- what holds of a composition that is read
+
+-- the table has what each unit names
 abbrev pub FitsUnits : List Source → List Node → Type 0
 FitsUnits table units =
     (unit : ℕ) (node : Node) → unit < length units → node ≡ get_or units unit node → FitsBody table node.body
 
--- one track, of clips of units that are there, and a table that has their sources
+-- a cut of a unit that is there, or a gap, with no filter
+pub record IsKnown (count : ℕ) (e : Entry) : Type 0 where
+  pub below : IsEntryBelow count e
+  pub plain : IsPlainEntry e
+
+pub record IsKnownDraft (count : ℕ) (draft : Draft) : Type 0 where
+  pub entries : All (IsKnown count) draft.entries
+  pub filters : draft.filters ≡ []
+
+-- tracks of such entries, with no filter and nothing planted
+pub record IsKnownLevel (count : ℕ) (level : Level) : Type 0 where
+  pub closed : All (IsKnownDraft count) level.closed
+  pub current : IsKnownDraft count level.current
+  pub plants : level.plants ≡ []
+
+-- units and sources that fit each other, with no filter
+pub record IsMade (made : Made) : Type 0 where
+  pub fits : FitsUnits made.table made.graph
+  pub plain : All IsPlainNode made.graph
+
 pub record IsComposed (s : State) : Type 0 where
-  pub one : s.level ≡ draft_of (state_view s) ∷ []
-  pub known : All (IsEntryBelow (length s.graph)) (last_entries s.level)
-  pub fits : FitsUnits s.table s.graph
+  pub made : IsMade s.made
+  pub level : IsKnownLevel (length s.made.graph) s.level

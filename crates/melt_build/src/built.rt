@@ -2,40 +2,12 @@
 
 ghost use Rattle.std.specs.Prelude.{◌≡◌, find};
 ghost use Rattle.std.specs.Option.{option_copied};
-ghost use Rattle.mlt_tree.specs.Unbuilt.{is_built as is_built_kind, is_later_prop, is_colour, producer_built, props_built, built, built_step};
+ghost use Rattle.mlt_tree.specs.Unbuilt.{is_later_prop, is_colour, producer_built, props_built, built, built_step};
 ghost use Rattle.mlt_tree.specs.Services.{producer_of, raw_of};
 ghost use Rattle.mlt_tree.specs.Refusing.{over};
 
 use crate::service::{Service, producer, raw};
 use mlt_tree::{Cause, Group, GroupKind, Prop, Refusal};
-
-fn kind_is_built(kind: GroupKind) -> bool
-    ensures { result ≡ is_built_kind kind }
-{
-    match kind {
-        GroupKind::Producer
-        | GroupKind::Group
-        | GroupKind::Blank
-        | GroupKind::Join
-        | GroupKind::Remove
-        | GroupKind::Repeat
-        | GroupKind::Split
-        | GroupKind::Swap
-        | GroupKind::Profile
-        | GroupKind::Consumer
-        | GroupKind::Query
-        | GroupKind::Version
-        | GroupKind::Quiet
-        | GroupKind::Silent
-        | GroupKind::Progress
-        | GroupKind::Verbose
-        | GroupKind::Debug
-        | GroupKind::Getc
-        | GroupKind::Timings
-        | GroupKind::Abort => true,
-        _ => false,
-    }
-}
 
 fn comes_later(prop: &Prop) -> bool
     ensures { result ≡ is_later_prop prop.now }
@@ -93,17 +65,49 @@ fn props_are_built(group: &Group) -> Result<(), Refusal>
     }
 }
 
+/// Whether a group is built.
 #[tactic(auto, unfolding(mlt_tree::specs::Unbuilt::built))]
 fn group_is_built(group: &Group) -> Result<(), Refusal>
     ensures { result ≡ built group.now }
 {
-    if !kind_is_built(group.kind) {
-        return Err(Refusal::at(group.place, Cause::Unsupported));
-    }
     match group.kind {
         GroupKind::Producer => producer_is_built(group),
         GroupKind::Consumer => props_are_built(group),
-        _ => Ok(()),
+        GroupKind::Attach
+        | GroupKind::AttachCut
+        | GroupKind::AttachClip
+        | GroupKind::AttachTrack
+        | GroupKind::Filter
+        | GroupKind::Transition
+        | GroupKind::Mix
+        | GroupKind::Mixer
+        | GroupKind::Track
+        | GroupKind::HideVideo
+        | GroupKind::AudioTrack
+        | GroupKind::HideAudio
+        | GroupKind::VideoTrack
+        | GroupKind::HideTrack
+        | GroupKind::NullTrack
+        | GroupKind::Serialise
+        | GroupKind::Generate => Err(Refusal::at(group.place, Cause::Unsupported)),
+        GroupKind::Blank
+        | GroupKind::Group
+        | GroupKind::Join
+        | GroupKind::Remove
+        | GroupKind::Repeat
+        | GroupKind::Split
+        | GroupKind::Swap
+        | GroupKind::Profile
+        | GroupKind::Query
+        | GroupKind::Version
+        | GroupKind::Quiet
+        | GroupKind::Silent
+        | GroupKind::Progress
+        | GroupKind::Verbose
+        | GroupKind::Debug
+        | GroupKind::Getc
+        | GroupKind::Timings
+        | GroupKind::Abort => Ok(()),
     }
 }
 

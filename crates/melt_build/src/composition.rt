@@ -3,22 +3,24 @@
 ghost use Rattle.std.specs.Prelude.{◌≡◌, IfOk, OnOk, None};
 ghost use Rattle.std.specs.Option.{option_map};
 ghost use Rattle.mlt_base.specs.Try.{TryGives};
-ghost use Rattle.mlt_tree.specs.Composition.{profile_step as profile_step_of, profile_named, effect as effect_of, producer as producer_of, consumer as consumer_of, inherit as inherit_of, default_frames};
+ghost use Rattle.mlt_tree.specs.Composing.{producer as producer_of, effect as effect_of, composed as composed_of};
+ghost use Rattle.mlt_tree.specs.Composition.{profile_step as profile_step_of, profile_named, consumer as consumer_of, inherit as inherit_of, start as start_of, default_frames};
+ghost use Rattle.mlt_tree.specs.Loading.{Files, through};
 ghost use Rattle.mlt_tree.specs.Refusing.{over};
-ghost use Rattle.mlt_tree.specs.Sealing.{composed as composed_of};
+ghost use Rattle.mlt_tree.specs.Sealing.{framed as framed_of};
 ghost use Rattle.mlt_graph.specs.Show.{profile_view};
-ghost use Rattle.melt_build.specs.Reads.{Takes};
+ghost use Rattle.melt_build.specs.Reads.{Takes, ReadGives};
 ghost use Rattle.melt_build.specs.State.{IsComposed, state_view};
 
 use crate::built::all_built;
 use crate::object::Object;
 use crate::props::Given;
 use crate::sources::SourceTable;
-use crate::state::State;
+use crate::state::{Made, State};
 use mlt_base::{Profile, Rate, Try};
 use mlt_graph::{Graph, Level};
 use mlt_tree::{Cause, Group, GroupKind, Refusal};
-use std::alloc::Global;
+use std::alloc::{AllocError, Global};
 use std::mem;
 
 /// `dv_pal`.
@@ -66,11 +68,20 @@ fn find_profile(groups: &[Group]) -> Result<Option<Profile>, Refusal>
     Ok(found)
 }
 
+/// The profile of the groups, none of which is not built.
+#[tactic(auto, unfolding(mlt_tree::specs::Sealing::framed))]
+fn framed(groups: &[Group]) -> Result<Profile, Refusal>
+    ensures { Takes profile_view result (framed_of groups.now) }
+{
+    all_built(groups)?;
+    Ok(find_profile(groups)?.unwrap_or(default_profile()))
+}
+
 impl<'a> State<'a> {
     /// A producer, with the properties that it inherits and its own.
     fn produce(&mut self, alloc: Global, group: &'a Group) -> Result<(), Try<Refusal>>
         requires { IsComposed self.old }
-        ensures value { TryGives (λ _. state_view self.new) result (producer_of (state_view self.old) group.now) }
+        ensures value { (files : Files) → ReadGives (λ _. state_view self.new) result (producer_of files (state_view self.old) group.now) }
         ensures composed { OnOk result (IsComposed self.new) }
     {
         let Ok(own) = Object::read(alloc, group.props.as_slice()) else {
@@ -119,30 +130,59 @@ impl<'a> State<'a> {
     }
 
     /// What the group does to the composition.
-    #[tactic(auto, unfolding(mlt_tree::specs::Composition::effect))]
+    #[tactic(auto, unfolding(mlt_tree::specs::Composing::effect))]
     fn effect(&mut self, alloc: Global, group: &'a Group) -> Result<(), Try<Refusal>>
         requires { IsComposed self.old }
-        ensures value { TryGives (λ _. state_view self.new) result (effect_of (state_view self.old) group.now) }
+        ensures value { (files : Files) → ReadGives (λ _. state_view self.new) result (effect_of files (state_view self.old) group.now) }
         ensures composed { OnOk result (IsComposed self.new) }
     {
         match group.kind {
             GroupKind::Producer => self.produce(alloc, group),
             GroupKind::Blank => self.blank(group),
+            GroupKind::Group => self.inherit(alloc, group),
             GroupKind::Join => self.join(group),
             GroupKind::Remove => self.remove(group),
             GroupKind::Repeat => self.repeat(group),
             GroupKind::Split => self.split(group),
             GroupKind::Swap => self.swap(group),
             GroupKind::Consumer => self.consume(alloc, group),
-            GroupKind::Group => self.inherit(alloc, group),
-            _ => Ok(()),
+            GroupKind::Attach
+            | GroupKind::AttachCut
+            | GroupKind::AttachClip
+            | GroupKind::AttachTrack
+            | GroupKind::Filter
+            | GroupKind::Transition
+            | GroupKind::Mix
+            | GroupKind::Mixer
+            | GroupKind::Track
+            | GroupKind::HideVideo
+            | GroupKind::AudioTrack
+            | GroupKind::HideAudio
+            | GroupKind::VideoTrack
+            | GroupKind::HideTrack
+            | GroupKind::NullTrack => {
+                Err(Try::Fault(Refusal::at(group.place, Cause::Unsupported)))
+            }
+            GroupKind::Profile
+            | GroupKind::Serialise
+            | GroupKind::Query
+            | GroupKind::Version
+            | GroupKind::Generate
+            | GroupKind::Quiet
+            | GroupKind::Silent
+            | GroupKind::Progress
+            | GroupKind::Verbose
+            | GroupKind::Debug
+            | GroupKind::Getc
+            | GroupKind::Timings
+            | GroupKind::Abort => Ok(()),
         }
     }
 
     /// What the groups do to the composition, in order.
     fn effects(&mut self, alloc: Global, groups: &'a [Group]) -> Result<(), Try<Refusal>>
         requires { IsComposed self.old }
-        ensures value { TryGives (λ _. state_view self.new) result (over effect_of (state_view self.old) groups.now) }
+        ensures value { (files : Files) → ReadGives (λ _. state_view self.new) result (through (effect_of files) (state_view self.old) groups.now) }
         ensures composed { OnOk result (IsComposed self.new) }
     {
         for group in groups {
@@ -152,24 +192,43 @@ impl<'a> State<'a> {
     }
 }
 
-/// The groups' composition.
-#[tactic(auto, unfolding(mlt_tree::specs::Sealing::composed))]
-pub(crate) fn composed<'a>(alloc: Global, groups: &'a [Group]) -> Result<State<'a>, Try<Refusal>>
-    ensures value { TryGives state_view result (composed_of groups.now) }
+/// Before the first of so many words.
+fn start<'a>(alloc: Global, profile: Profile, count: u32) -> Result<State<'a>, AllocError>
+    ensures value { IfOk result (λ s. state_view s ≡ start_of (profile_view profile) count) }
     ensures composed { IfOk result IsComposed }
 {
-    all_built(groups)?;
-    let profile = find_profile(groups)?.unwrap_or(default_profile());
-    let Ok(level) = Level::new(alloc) else {
-        return Err(Try::Memory);
-    };
-    let mut state = State {
+    let level = Level::new(alloc)?;
+    Ok(State {
         profile,
-        inherited: Object::none(alloc),
-        graph: Graph::new(alloc),
+        made: Made {
+            graph: Graph::new(alloc),
+            table: SourceTable::new(alloc),
+            loaded: 0,
+            words: count,
+        },
         level,
-        table: SourceTable::new(alloc),
+        plant_places: Vec::new(alloc),
+        inherited: Object::none(alloc),
+        last_mix: None,
         consumer: None,
+    })
+}
+
+/// The composition of the groups of so many words.
+pub(crate) fn composed<'a>(
+    alloc: Global,
+    count: u32,
+    groups: &'a [Group],
+) -> Result<State<'a>, Try<Refusal>>
+    ensures value { (files : Files) → ReadGives state_view result (composed_of files count groups.now) }
+    ensures composed { IfOk result IsComposed }
+{
+    let profile = match framed(groups) {
+        Ok(profile) => profile,
+        Err(refusal) => return Err(Try::Fault(refusal)),
+    };
+    let Ok(mut state) = start(alloc, profile, count) else {
+        return Err(Try::Memory);
     };
     match state.effects(alloc, groups) {
         Ok(()) => Ok(state),

@@ -2,8 +2,8 @@
 //!
 //! [`build`] gives exactly the show of `mlt_tree`'s `specs/Sealing`, or its refusal with the place. Each
 //! step is one small function with the name of its definition: `built` refuses what is not built yet,
-//! `composition` takes the profile and then the groups in word order, `state` and `track` do one group,
-//! and `seal` tests the whole at the end. `object` keeps the properties of a group by name, and `props`
+//! `composition` takes the profile and then the groups in word order, `state`, `track`, `wanted` and `clips` do
+//! one group, and `seal` tests the whole at the end. `object` keeps the properties of a group by name, and `props`
 //! reads their values.
 //!
 //! Below stand `mlt_graph`, which the composition grows in, and `melt_words`, whose groups it reads; above,
@@ -11,6 +11,7 @@
 #![tactic(auto)]
 
 mod built;
+mod clips;
 mod colours;
 mod composition;
 mod consumer;
@@ -23,6 +24,7 @@ pub mod show;
 pub mod sources;
 mod state;
 mod track;
+mod wanted;
 
 pub use show::{BuildFault, build};
 pub use sources::{Colour, SourceTable};

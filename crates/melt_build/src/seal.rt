@@ -1,22 +1,25 @@
 //! The end of a composition: whether there is something to play, and not too much of it.
 
-ghost use Rattle.std.specs.Prelude.{◌≡◌, ◌≤◌, ◌<◌, ◌+◌, ◌-◌, ◌^◌, ◌++◌, [], ◌∷◌, length, All, IfOk, unwrap_or};
+ghost use Rattle.std.specs.Prelude.{◌≡◌, ◌≤◌, ◌<◌, ◌+◌, ◌-◌, ◌^◌, ◌++◌, [], ◌∷◌, length, All, IfOk, None, unwrap_or};
 ghost use Rattle.std.specs.Option.{option_map};
 ghost use Rattle.mlt_base.specs.Try.{TryGives};
 ghost use Rattle.mlt_tree.specs.Composition.{State as StateOf};
 ghost use Rattle.mlt_tree.specs.Sealing.{unit_of, bytes_of, few_frames as few_frames_of, few_bytes as few_bytes_of, ranged as ranged_of, sealable, show_of_tree as show_of_tree_of, seal as seal_of, settings_of, default_consumer as default_of};
 ghost use Rattle.mlt_tree.specs.Sources.{Fits};
 ghost use Rattle.mlt_tree.specs.Tree.{len};
-ghost use Rattle.mlt_tree.specs.Units.{IsEntryBelow, tractor_of};
+ghost use Rattle.mlt_tree.specs.Unbuilt.{IsPlayed};
+ghost use Rattle.mlt_tree.specs.Units.{IsEntryBelow, drafts_of, tractor_of};
 ghost use Rattle.mlt_graph.specs.Sealed.{tree};
 ghost use Rattle.mlt_graph.specs.Show.{profile_view, output_view, meant};
 ghost use Rattle.melt_build.specs.Built.{refusal_of};
 ghost use Rattle.melt_build.specs.Reads.{Takes};
 ghost use Rattle.melt_build.specs.State.{IsComposed, consumer_view, cut_view, state_view};
 
+use crate::clips::cut_of;
 use crate::consumer::Consumer;
 use crate::sources::SourceTable;
-use crate::state::{Cut, State, cut_between};
+use crate::state::{Made, State};
+use crate::wanted::Cut;
 use mlt_base::{Pos, Profile, Text, Try};
 use mlt_graph::{Format, Graph, GraphFault, Level, Output, Pix, Sealed, Show};
 use mlt_tree::{Cause, Refusal};
@@ -79,7 +82,7 @@ fn ranged(count: u32, profile: &Profile, c: &Consumer<'_>, sealed: &Sealed) -> R
     ensures ordered { IfOk result (λ range. (range.first ≤ range.last) × (range.last < len (tree sealed.now))) }
     ensures few { IfOk result (λ range. range.last + 1 - range.first ≤ 1000000) }
 {
-    let range = cut_between(c.place, sealed.length(), c.first.unwrap_or(0), c.last)?;
+    let range = cut_of(c.place, sealed.length(), c.first.unwrap_or(0), c.last)?;
     let range = few_frames(count, range)?;
     few_bytes(count, bytes(profile, c, sealed.need()), range)
 }
@@ -107,6 +110,7 @@ fn output(alloc: Global, c: &Consumer<'_>, range: Cut) -> Result<Output, AllocEr
     requires few { range.last + 1 - range.first ≤ 1000000 }
     ensures value { IfOk result (λ output. output_view output ≡ settings_of (consumer_view c.now) (cut_view range)) }
     ensures last { IfOk result (λ output. output.last.0 ≡ range.last) }
+    ensures silent { IfOk result (λ output. output.audio ≡ None) }
 {
     Ok(Output {
         video: Text::new(alloc, c.video)?,
@@ -138,7 +142,7 @@ fn graph_refusal(count: u32, fault: GraphFault) -> Try<Refusal>
 /// The graph with a tractor of the tracks as its top, sealed.
 #[tactic(auto, unfolding(mlt_tree::specs::Sealing::sealable))]
 fn sealed(count: u32, mut graph: Graph, level: Level) -> Result<Sealed, Try<Refusal>>
-    requires { All (λ draft. All (IsEntryBelow (length graph)) draft.entries) level }
+    requires { All (λ draft. All (IsEntryBelow (length graph)) draft.entries) (drafts_of level) }
     ensures value { TryGives (λ _. tt) result (sealable count (graph ++ tractor_of level ∷ []) (length graph)) }
     ensures sealed { IfOk result (λ sealed. sealed ≡ record { units = graph ++ tractor_of level ∷ []; top = length graph }) }
 {
@@ -162,8 +166,9 @@ fn show_of_tree(
     sealed: Sealed,
 ) -> Result<Show, Try<Refusal>>
     ensures show { (s : StateOf) → s.frames ≡ profile_view profile → s.consumer ≡ option_map consumer_view consumer.entry →
-        TryGives (λ show. meant show s.sources) result (show_of_tree_of count s (tree sealed)) }
+        TryGives (λ show. meant show s.made.sources) result (show_of_tree_of count s (tree sealed)) }
     ensures tree { IfOk result (λ show. tree show.sealed ≡ tree sealed) }
+    ensures silent { IfOk result (λ show. show.output.audio ≡ None) }
 {
     let c = consumer.unwrap_or(default_consumer());
     let range = ranged(count, &profile, &c, &sealed)?;
@@ -187,17 +192,27 @@ pub(crate) fn seal(
     requires { IsComposed state }
     ensures show { TryGives (λ made. meant made.0 made.1) result (seal_of count (state_view state.entry)) }
     ensures fits { IfOk result (λ made. Fits made.1 (tree made.0.sealed)) }
+    ensures played { IfOk result (λ made. IsPlayed (meant made.0 made.1)) }
 {
     let State {
         profile,
-        inherited,
-        graph,
+        made,
         level,
-        table,
+        plant_places: _,
+        inherited,
+        last_mix: _,
         consumer,
     } = state;
+    let Made {
+        graph,
+        table,
+        loaded: _,
+        words: _,
+    } = made;
     inherited.end();
     let sealed = sealed(count, graph, level)?;
-    let show = show_of_tree(alloc, count, profile, consumer, sealed)?;
-    Ok((show, table))
+    match show_of_tree(alloc, count, profile, consumer, sealed) {
+        Ok(show) => Ok((show, table)),
+        Err(refusal) => Err(refusal),
+    }
 }

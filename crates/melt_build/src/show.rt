@@ -3,14 +3,16 @@
 ghost use Rattle.std.specs.Prelude.{◌≡◌, ◌≤◌, All, IfOk, find, fold};
 ghost use Rattle.std.specs.Option.{option_copied};
 ghost use Rattle.mlt_host.specs.Host.{OnlyLoads};
-ghost use Rattle.mlt_base.specs.Try.{TryGives};
+ghost use Rattle.mlt_tree.specs.Composing.{show_of};
 ghost use Rattle.mlt_tree.specs.GroupWords.{IsAllowed, words_in};
-ghost use Rattle.mlt_tree.specs.Sealing.{show_of};
+ghost use Rattle.mlt_tree.specs.Loading.{Files};
 ghost use Rattle.mlt_tree.specs.Sources.{Fits};
 ghost use Rattle.mlt_tree.specs.Table.{is_kind, row_of};
+ghost use Rattle.mlt_tree.specs.Unbuilt.{IsPlayed};
 ghost use Rattle.mlt_graph.specs.Sealed.{tree};
 ghost use Rattle.mlt_graph.specs.Show.{meant};
 ghost use Rattle.melt_build.specs.Builds.{Builds};
+ghost use Rattle.melt_build.specs.Reads.{ReadGives};
 ghost use Rattle.melt_build.specs.WordCount.{behind_group, has_argument as has_argument_of};
 
 use crate::composition::composed;
@@ -101,13 +103,16 @@ fn word_count(groups: &[Group]) -> u32
 }
 
 /// The show of the groups of so many words.
-#[tactic(auto, unfolding(mlt_tree::specs::Sealing::show_of))]
-fn made(alloc: Global, count: u32, groups: &[Group]) -> Result<(Show, SourceTable), Try<Refusal>>
-    ensures show { TryGives (λ made. meant made.0 made.1) result (show_of count groups.now) }
+#[tactic(auto, unfolding(mlt_tree::specs::Composing::show_of))]
+fn show_of(alloc: Global, count: u32, groups: &[Group]) -> Result<(Show, SourceTable), Try<Refusal>>
+    ensures show { (files : Files) → ReadGives (λ made. meant made.0 made.1) result (show_of files count groups.now) }
     ensures fits { IfOk result (λ made. Fits made.1 (tree made.0.sealed)) }
+    ensures played { IfOk result (λ made. IsPlayed (meant made.0 made.1)) }
 {
-    let state = composed(alloc, groups)?;
-    seal(alloc, count, state)
+    match composed(alloc, count, groups) {
+        Ok(state) => seal(alloc, count, state),
+        Err(refusal) => Err(refusal),
+    }
 }
 
 /// Makes the show that groups mean, and the table of its sources; it loads the files that they name, of
@@ -122,13 +127,15 @@ pub fn build<H: Host>(
     host: &mut H,
 ) -> Result<(Show, SourceTable), BuildFault>
     requires { All IsAllowed groups.now }
-    ensures show { Builds (λ made. meant made.0 made.1) result (show_of (words_in groups.now) groups.now) }
+    ensures show { (files : Files) → Builds (λ made. meant made.0 made.1) result (show_of files (words_in groups.now) groups.now) }
     ensures fits { IfOk result (λ made. Fits made.1 (tree made.0.sealed)) }
+    ensures played { IfOk result (λ made. IsPlayed (meant made.0 made.1)) }
     ensures asked { (H.state host.new).asked ≡ (H.state host.old).asked }
+    ensures loads { (H.state host.new).load_faults ≡ (H.state host.old).load_faults }
     ensures rest { OnlyLoads (H.state host.old) (H.state host.new) }
 {
     let list = groups.as_slice();
-    match made(alloc, word_count(list), list) {
+    match show_of(alloc, word_count(list), list) {
         Ok(made) => Ok(made),
         Err(Try::Fault(refusal)) => Err(BuildFault::Refused(refusal)),
         Err(Try::Memory) => Err(BuildFault::Memory),

@@ -5,7 +5,6 @@ ghost use Rattle.mlt_base.specs.Try.{TryGives};
 ghost use Rattle.mlt_tree.specs.Composition.{blank as blank_of, remove as remove_of, repeat as repeat_of, split as split_of, split_at_frame as split_at_frame_of, swap as swap_of, join as join_of, joined as joined_of};
 ghost use Rattle.mlt_tree.specs.Refusing.{refusal_at as refusal_of};
 ghost use Rattle.mlt_tree.specs.declared.refusal.Cause.{Cause};
-ghost use Rattle.mlt_graph.specs.Drafts.{last_entries};
 ghost use Rattle.melt_build.specs.State.{IsComposed, state_view};
 ghost use Rattle.melt_build.specs.Track.{IsLastIndex};
 
@@ -31,7 +30,7 @@ impl State<'_> {
 
     /// The index of the last entry, where there is one.
     fn last_index(&self) -> Option<usize>
-        ensures { IsLastIndex (last_entries self.now.level) result }
+        ensures { IsLastIndex self.now.level.current.entries result }
     {
         self.level.last_list().count().checked_sub(1)
     }
@@ -116,11 +115,11 @@ impl State<'_> {
         ensures composed { OnOk result (IsComposed self.new) }
     {
         let n = n as usize;
-        let unit = self.graph.next_id();
+        let unit = self.made.graph.next_id();
         let list = self.level.last();
         let at = list.count().saturating_sub(n);
         let entries = edited(group.place, list.join(at, n, unit))?;
-        match self.graph.add_list(entries) {
+        match self.made.graph.add_list(entries) {
             Ok(_) => Ok(()),
             Err(_) => Err(Try::Memory),
         }

@@ -1,29 +1,28 @@
--- A port to which the positions are appended one after another.
-use Rattle.std.proofs.Common.{ℕ, ◌≡◌, ◌+◌, List, ◌++◌, take, Option, None, Some, IfSome, IsSomeAnd, refl, sym, ap, ◌∙◌, subst, add-one, length-append}
+-- An output to which the positions are appended one after another.
+use Rattle.std.proofs.Common.{ℕ, ◌≡◌, ◌+◌, List, Option, None, Some, IfSome, IsSomeAnd, refl, sym, ap, ◌∙◌, subst, add-one, length-append}
+use Rattle.mlt_base.specs.declared.port.Port.{Port}
+use Rattle.mlt_base.specs.declared.port.Port.TheVariants.{Video}
 use Rattle.mlt_host.specs.Host.{PortState, appended, cut_short}
-use Rattle.mlt_tree.specs.Show.{Show, video_of, video_front}
-use Rattle.melt_run.specs.Play.{fronted, IsCut}
+use Rattle.mlt_tree.specs.Show.{Show, piece}
+use Rattle.melt_run.specs.Play.{fronted, IsCutAt}
 
-step : (show : Show) (count : ℕ) → appended (fronted show count) (video_of show (show.output.first + count)) ≡ fronted show (count + 1)
-step show count = rw (add-one, length-append) refl
+module _ (show : Show) (name : List ℕ) (count : ℕ) where
+  step : (port : Port) → appended (fronted show port name count) (piece show port (show.output.first + count)) ≡ fronted show port name (count + 1)
+  step port = rw (add-one, length-append) refl
 
--- one position more
-pub grows : (show : Show) (count : ℕ) (bytes : List ℕ) (old new : Option PortState) → bytes ≡ video_of show (show.output.first + count) → IfSome old (λ port. port ≡ fronted show count) → IfSome new (λ after. IsSomeAnd old (λ before. after ≡ appended before bytes)) → IfSome new (λ port. port ≡ fronted show (count + 1))
-grows show count bytes old None is front added = tt
-grows show count bytes None (Some after) is front added = absurd added
-grows show count bytes (Some before) (Some after) is front added =
-    added ∙ ap (λ port. appended port bytes) front ∙ ap (appended (fronted show count)) is ∙ step show count
+  -- one position more
+  pub grows : (port : Port) (old new : Option PortState) → IfSome old (λ now. now ≡ fronted show port name count) → IfSome new (λ after. IsSomeAnd old (λ before. after ≡ appended before (piece show port (show.output.first + count)))) → IfSome new (λ now. now ≡ fronted show port name (count + 1))
+  grows port old None front added = tt
+  grows port None (Some after) front added = absurd added
+  grows port (Some before) (Some after) front added =
+      added ∙ ap (λ now. appended now (piece show port (show.output.first + count))) front ∙ step port
 
-cut_is : (show : Show) (count : ℕ) (bytes : List ℕ) (kept : ℕ) → bytes ≡ video_of show (show.output.first + count) → IsCut show count (cut_short (fronted show count) bytes kept)
-cut_is show count bytes kept is = record {
-  name = refl;
-  bytes = (kept, ap (λ more. video_front show count ++ take kept more) is);
-  acknowledged = refl;
-}
+  cut_is : (kept : ℕ) → IsCutAt show Video Video name count (cut_short (fronted show Video name count) (piece show Video (show.output.first + count)) kept)
+  cut_is kept = record { named = refl; kept = kept; itself = λ apart. absurd (apart refl); bytes = refl; acknowledged = refl }
 
--- a front of the next position
-pub cuts : (show : Show) (count : ℕ) (bytes : List ℕ) (old new : Option PortState) → bytes ≡ video_of show (show.output.first + count) → IfSome old (λ port. port ≡ fronted show count) → IfSome new (λ after. IsSomeAnd old (λ before. (kept : ℕ) × (after ≡ cut_short before bytes kept))) → IfSome new (IsCut show count)
-cuts show count bytes old None is front added = tt
-cuts show count bytes None (Some after) is front added = absurd added
-cuts show count bytes (Some before) (Some after) is front added =
-    subst (IsCut show count) (sym (added.1 ∙ ap (λ port. cut_short port bytes added.0) front)) (cut_is show count bytes added.0 is)
+  -- a front of the next position
+  pub cuts : (old new : Option PortState) → IfSome old (λ now. now ≡ fronted show Video name count) → IfSome new (λ after. IsSomeAnd old (λ before. (kept : ℕ) × (after ≡ cut_short before (piece show Video (show.output.first + count)) kept))) → IfSome new (IsCutAt show Video Video name count)
+  cuts old None front added = tt
+  cuts None (Some after) front added = absurd added
+  cuts (Some before) (Some after) front added =
+      subst (IsCutAt show Video Video name count) (sym (added.1 ∙ ap (λ now. cut_short now (piece show Video (show.output.first + count)) added.0) front)) (cut_is added.0)

@@ -4,8 +4,11 @@ mod Drawn
 mod Fronted
 mod Hosts
 mod Lifts
+mod Loaded
+mod Named
 mod Outcomes
 mod Painted
+mod Played
 mod Tallies
 mod Tiled
 mod Walked

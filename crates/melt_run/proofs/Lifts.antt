@@ -1,21 +1,24 @@
--- What a run leaves, counted from before the words were read.
-use Rattle.std.proofs.Common.{ℕ, ◌≡◌, ◌⊎◌, ◌≤◌, List, [], ◌∷◌, ◌++◌, length, Option, IfSome, IsSomeAnd, refl, sym, subst, ◌∙◌, arith}
-use Rattle.std.proofs.Math.Seq.{take-length}
-use Rattle.mlt_base.specs.declared.port.Port.TheVariants.{Video, Text}
-use Rattle.mlt_host.specs.Host.{HostState, PortState, OnlyPort, OnlyLoads, Rose, appended, cut_short}
+-- What a run leaves, once the line of its end is told.
+use Rattle.std.proofs.Common.{ℕ, ◌≡◌, ◌≢◌, ◌⊎◌, ◌≤◌, ◌∷◌, List, [], Option, None, Some, Ok, Err, IfSome, IsSomeAnd, refl, sym, ap, subst, ◌∙◌, inl, inr, arith}
+use Rattle.mlt_base.specs.declared.port.Port.{Port}
+use Rattle.mlt_base.specs.declared.port.Port.TheVariants.{Video, Audio, Script, Text}
+use Rattle.mlt_host.specs.Count.{next}
+use Rattle.mlt_host.specs.Host.{HostState, PortState, OnlyPort, Rose, appended, cut_short}
 use Rattle.mlt_tree.specs.declared.refusal.Refusal.{Refusal}
-use Rattle.mlt_tree.specs.Show.{Show}
-use Rattle.mlt_tree.specs.Reading as meaning
-use Rattle.mlt_tree.specs.Reading.{Reading, TextJob, job_text}
-use Rattle.mlt_tree.specs.Lines.{memory_line}
+use Rattle.mlt_tree.specs.Lines.{refusal_line, memory_line}
+use Rattle.mlt_tree.specs.Loading as read
+use Rattle.mlt_tree.specs.Reading.{Reading, Play, Print, TextJob, job_text}
+use Rattle.mlt_tree.specs.Show.{Show, output_of, written_frames}
 use Rattle.melt_run.specs.declared.status.Status.{Status}
 use Rattle.melt_run.specs.declared.status.Status.TheVariants.{Done, Refused, SinkFault, Memory}
-use Rattle.melt_run.specs.Ends.{ChangesText, EndsShow, EndsPrint, EndsRefused, PrintsOrTells, Ends}
-use Rattle.melt_run.specs.Outcome.{Tells, AsksFor}
-use Rattle.melt_run.specs.Play.{Plays}
-use Rattle.melt_run.specs.Prepared.{Asks}
+use Rattle.melt_run.specs.declared.status.Tally.{Tally}
+use Rattle.melt_run.specs.Ends.{EndsShow, EndsPrint, EndsStopped, OnlyTells, PrintsOrTells, Ends}
+use Rattle.melt_run.specs.Outcome.{Tells, CountsRun, CountsLine, KeepsHost, CreatesNothing}
+use Rattle.melt_run.specs.Play.{EachOutput, Plays, KeepsElse, Stops, IsCutAt, IsUncreated, CountsFaults, CreatesOnce, comes_before, fronted}
 use Rattle.melt_run.specs.Prints.{Prints}
-use Rattle.melt_run.specs.Status.{line_of}
+use Rattle.melt_run.specs.Status.{line_of, IfSinkFault, IfMemory}
+
+-- ---- the text
 
 -- these bytes were added to what the port was
 abbrev Adds : List ℕ → Option PortState → HostState → Type 0
@@ -30,90 +33,242 @@ abbrev Told : List ℕ → Option PortState → ℕ → HostState → Type 0
 Told bytes port faults c =
     (Adds bytes port c × (c.faults Text ≡ faults)) ⊎ (AddsFront bytes port c × Rose faults (c.faults Text))
 
-tells_from : (line : List ℕ) (a b c : HostState) → OnlyLoads a b → Tells line b c → Tells line a c
-tells_from [] a b c loads h = (h.0 ∙ loads.ports Text, h.1 ∙ loads.faults Text)
-tells_from (x ∷ line) a b c loads h =
-    subst (λ port. Told (x ∷ line) port (a.faults Text) c) (loads.ports Text) (subst (λ n. Told (x ∷ line) (b.port Text) n c) (loads.faults Text) h)
+-- a line that was told where the text was as before
+tells_from : (line : List ℕ) (a b c : HostState) → b.port Text ≡ a.port Text → b.faults Text ≡ a.faults Text → Tells line b c → Tells line a c
+tells_from [] a b c port faults h = (h.0 ∙ port, h.1 ∙ faults)
+tells_from (x ∷ line) a b c port faults h =
+    subst (λ port. Told (x ∷ line) port (a.faults Text) c) port (subst (λ n. Told (x ∷ line) (b.port Text) n c) faults h)
 
-plays_from : (show : Show) (status : Status) (a b c : HostState) → OnlyLoads a b → Plays show status (b.port Video) (c.port Video) (b.faults Video) (c.faults Video) → Plays show status (a.port Video) (c.port Video) (a.faults Video) (c.faults Video)
-plays_from show status a b c loads h =
-    subst (λ port. Plays show status port (c.port Video) (a.faults Video) (c.faults Video)) (loads.ports Video) (subst (λ n. Plays show status (b.port Video) (c.port Video) n (c.faults Video)) (loads.faults Video) h)
+-- ---- a show that was played
 
-pub show_from : (show : Show) (status : Status) (a b c : HostState) → OnlyLoads a b → EndsShow show status b c → EndsShow show status a c
-show_from show status a b c loads h = record {
-  plays = plays_from show status a b c loads h.plays;
-  line = tells_from (line_of status) a b c loads h.line;
-  rest = let rest = h.rest in record {
-    files = rest.files ∙ loads.files;
-    loads = omega (arith, rest.loads, loads.never_falls);
-    other_ports = λ port v t. rest.other_ports port v t ∙ loads.ports port;
-    other_faults = λ port v t. rest.other_faults port v t ∙ loads.faults port;
-    video = let e = loads.faults Video in omega (arith, rest.video, e);
-    text = let e = loads.faults Text in omega (arith, rest.text, e);
-  };
-}
+-- no output is the text
+no_text : (show : Show) (failed : Port) → output_of show failed ≢ None → failed ≢ Text
+no_text show failed some is = some (ap (output_of show) is)
 
-text_from : (a b c : HostState) → OnlyLoads a b → OnlyPort Text b c → b.faults Text ≤ c.faults Text → ChangesText a c
-text_from a b c loads rest falls = record {
-  files = rest.files ∙ loads.files;
-  loads = let e = rest.load_faults in omega (arith, e, loads.never_falls);
-  other_ports = λ port apart. rest.other_ports port apart ∙ loads.ports port;
-  other_faults = λ port apart. rest.other_faults port apart ∙ loads.faults port;
-  text = let e = loads.faults Text in omega (arith, falls, e);
-}
+-- each output is as before the line
+each_kept : (show : Show) (P : Port → List ℕ → Option PortState → Type 0) (b c : HostState) → ((port : Port) → port ≢ Text → c.port port ≡ b.port port) → EachOutput show (λ port name. P port name (b.port port)) → EachOutput show (λ port name. P port name (c.port port))
+each_kept show P b c same h Video = subst (P Video show.output.video) (sym (same Video (λ e. cc))) (h Video)
+each_kept show P b c same h Audio =
+    subst (λ now. IfSome show.output.audio (λ name. P Audio name now)) (sym (same Audio (λ e. cc))) (h Audio)
+each_kept show P b c same h Script = tt
+each_kept show P b c same h Text = tt
 
-prints_from : (job : TextJob) (status : Status) (a b c : HostState) → OnlyLoads a b → Prints (job_text job) status b c → PrintsOrTells job status a c
-prints_from job (Done tally) a b c loads h =
-    (h.0, subst (λ port. Adds (job_text job) port c) (loads.ports Text) h.1, h.2 ∙ loads.faults Text)
-prints_from job (Refused refusal) a b c loads h = absurd h
-prints_from job (SinkFault port tally) a b c loads h =
-    (h.0, h.1, subst (λ before. AddsFront (job_text job) before c) (loads.ports Text) h.2, subst (λ n. Rose n (c.faults Text)) (loads.faults Text) h.3)
-prints_from job Memory a b c loads h = absurd h
+module _ (show : Show) (a b c : HostState) (line : OnlyPort Text b c) where
+  stops_kept : (failed : Port) (tally : Tally) → Stops show failed tally a b → Stops show failed tally a c
+  stops_kept failed tally (inl h) =
+      inl (h.0, each_kept show (λ port name now. IsUncreated (comes_before port failed) show port name (a.port port) now) b c line.other_ports h.1)
+  stops_kept failed tally (inr h) =
+      inr (record { counts = h.counts; cut = each_kept show (λ port name now. IfSome now (IsCutAt show failed port name tally.frames)) b c line.other_ports h.cut })
 
-pub print_from : (job : TextJob) (status : Status) (a b c : HostState) → OnlyLoads a b → Prints (job_text job) status b c → OnlyPort Text b c → b.faults Text ≤ c.faults Text → EndsPrint job status a c
-print_from job status a b c loads h rest falls =
-    record { prints = prints_from job status a b c loads h; rest = text_from a b c loads rest falls }
+  plays_kept : (status : Status) → Plays show status a b → Plays show status a c
+  plays_kept (Done tally) h =
+      (h.0, each_kept show (λ port name now. IfSome now (λ state. state ≡ fronted show port name (written_frames show))) b c line.other_ports h.1)
+  plays_kept (Refused refusal) h = absurd h
+  plays_kept (SinkFault failed tally) h = (h.0, stops_kept failed tally h.1)
+  plays_kept Memory h = each_kept show (λ port name now. now ≡ a.port port) b c line.other_ports h
 
-pub refused_from : (refusal : Refusal) (status : Status) (a b c : HostState) → OnlyLoads a b → status ≡ Refused refusal → Tells (line_of (Refused refusal)) b c → OnlyPort Text b c → b.faults Text ≤ c.faults Text → EndsRefused refusal status a c
-refused_from refusal status a b c loads is line rest falls =
-    subst (λ s. EndsRefused refusal s a c) (sym is) (record {
-      answer = refl;
-      line = tells_from (line_of (Refused refusal)) a b c loads line;
-      rest = text_from a b c loads rest falls;
-    })
+  module _ (status : Status) (plays : Plays show status a b) (keeps : KeepsElse show status a b) where
+    -- playing leaves the text, and the count of its faults
+    text_port : b.port Text ≡ a.port Text
+    text_port = keeps.others Text refl
 
-pub memory_from : (reading : Reading) (status : Status) (a b c : HostState) → OnlyLoads a b → status ≡ Memory → Tells memory_line b c → OnlyPort Text b c → b.faults Text ≤ c.faults Text → Ends reading status a c
-memory_from reading status a b c loads is line rest falls = subst (λ s. Ends reading s a c) (sym is) (by reading) where
-  told : Tells memory_line a c
-  told = tells_from memory_line a b c loads line
+    text_faults : b.faults Text ≡ a.faults Text
+    text_faults = by status plays keeps.faults where
+      by : (status : Status) → Plays show status a b → CountsFaults status a.faults b.faults → b.faults Text ≡ a.faults Text
+      by (Done tally) plays h = h Text
+      by (Refused refusal) plays h = h Text
+      by (SinkFault failed tally) plays h = h.2 Text (λ e. no_text show failed plays.0 (sym e))
+      by Memory plays h = h Text
 
-  changes : ChangesText a c
-  changes = text_from a b c loads rest falls
+    rose : IfSinkFault status (λ port tally. Rose (a.faults port) (c.faults port))
+    rose = by status plays keeps.faults where
+      by : (status : Status) → Plays show status a b → CountsFaults status a.faults b.faults → IfSinkFault status (λ port tally. Rose (a.faults port) (c.faults port))
+      by (Done tally) plays h = tt
+      by (Refused refusal) plays h = tt
+      by (SinkFault failed tally) plays h = subst (Rose (a.faults failed)) (sym (line.other_faults failed (no_text show failed plays.0))) h.0
+      by Memory plays h = tt
 
-  by : (reading : Reading) → Ends reading Memory a c
-  by (meaning.Play show) = record {
-    plays = (changes.other_ports Video (λ e. cc), changes.other_faults Video (λ e. cc));
-    line = told;
-    rest = record {
-      files = changes.files;
-      loads = changes.loads;
-      other_ports = λ port v t. changes.other_ports port t;
-      other_faults = λ port v t. changes.other_faults port t;
-      video = let e = changes.other_faults Video (λ e. cc) in omega (arith, e);
-      text = changes.text;
-    };
+    module _ (told : Tells (line_of status) b c) (text_creates : c.creates Text ≡ b.creates Text) where
+      all_creates : (port : Port) → c.creates port ≡ b.creates port
+      all_creates Video = line.other_creates Video (λ e. cc)
+      all_creates Audio = line.other_creates Audio (λ e. cc)
+      all_creates Script = line.other_creates Script (λ e. cc)
+      all_creates Text = text_creates
+
+      line_told : Tells (line_of status) a c
+      line_told = tells_from (line_of status) a b c text_port text_faults told
+
+      creates : (port : Port) → CreatesOnce (output_of show port) status (a.creates port) (c.creates port)
+      creates port = subst (CreatesOnce (output_of show port) status (a.creates port)) (sym (all_creates port)) (keeps.creates port)
+
+      pub show_ends : EndsShow show status a c
+      show_ends = record {
+        plays = plays_kept status plays;
+        rose = rose;
+        others = λ port apart none. line.other_ports port apart ∙ keeps.others port none;
+        creates = creates;
+        line = line_told;
+      }
+
+      all_same : ((port : Port) → b.faults port ≡ a.faults port) → c.faults Text ≡ a.faults Text → (port : Port) → c.faults port ≡ a.faults port
+      all_same h text Video = line.other_faults Video (λ e. cc) ∙ h Video
+      all_same h text Audio = line.other_faults Audio (λ e. cc) ∙ h Audio
+      all_same h text Script = line.other_faults Script (λ e. cc) ∙ h Script
+      all_same h text Text = text
+
+      pub show_counts : CountsRun status a c
+      show_counts = by status plays keeps.faults line_told where
+        by : (status : Status) → Plays show status a b → CountsFaults status a.faults b.faults → Tells (line_of status) a c → CountsRun status a c
+        by (Done tally) plays h told = all_same h told.1
+        by (Refused refusal) plays h told = absurd plays
+        by (SinkFault failed tally) plays h told = record {
+          rose = subst (Rose (a.faults failed)) (sym (line.other_faults failed (no_text show failed plays.0))) h.0;
+          others = λ port apart text. line.other_faults port text ∙ h.2 port apart;
+          told = λ text. told;
+        }
+        by Memory plays h told = record { others = λ port text. line.other_faults port text ∙ h port; told = told }
+
+      once_of : (o : Option (List ℕ)) (old new : ℕ) → CreatesOnce o status old new → (new ≡ old) ⊎ (new ≡ next old)
+      once_of None old new h = inl h
+      once_of (Some name) old new h = by status h where
+        by : (status : Status) → CreatesOnce (Some name) status old new → (new ≡ old) ⊎ (new ≡ next old)
+        by (Done tally) h = inr h
+        by (Refused refusal) h = inl h
+        by (SinkFault failed tally) h = h
+        by Memory h = inl h
+
+      -- no count of another port than the text has fallen
+      falls : (port : Port) → a.faults port ≤ b.faults port
+      falls port = by status keeps.faults where
+        same : b.faults port ≡ a.faults port → a.faults port ≤ b.faults port
+        same e = omega arith
+
+        by : (status : Status) → CountsFaults status a.faults b.faults → a.faults port ≤ b.faults port
+        by (Done tally) h = same (h port)
+        by (Refused refusal) h = same (h port)
+        by (SinkFault failed tally) h = h.1 port
+        by Memory h = same (h port)
+
+      module _ (text_falls : b.faults Text ≤ c.faults Text) where
+        all_fall : (port : Port) → b.faults port ≤ c.faults port
+        all_fall Video = let e = line.other_faults Video (λ e. cc) in omega arith
+        all_fall Audio = let e = line.other_faults Audio (λ e. cc) in omega arith
+        all_fall Script = let e = line.other_faults Script (λ e. cc) in omega arith
+        all_fall Text = text_falls
+
+        pub show_keeps : KeepsHost a c
+        show_keeps = record {
+          files = line.files ∙ keeps.files;
+          loads = line.load_faults ∙ keeps.loads;
+          never_falls = λ port. omega (arith, falls port, all_fall port);
+          once = λ port. once_of (output_of show port) (a.creates port) (c.creates port) (creates port);
+        }
+
+      pub show_nothing : IfMemory status (CreatesNothing a c)
+      show_nothing = by status plays creates where
+        port_kept : (port : Port) (o : Option (List ℕ)) → output_of show port ≡ o → IfSome o (λ name. b.port port ≡ a.port port) → b.port port ≡ a.port port
+        port_kept port None none h = keeps.others port none
+        port_kept port (Some name) is h = h
+
+        not_created : (o : Option (List ℕ)) (old new : ℕ) → CreatesOnce o Memory old new → new ≡ old
+        not_created None old new h = h
+        not_created (Some name) old new h = h
+
+        by : (status : Status) → Plays show status a b → ((port : Port) → CreatesOnce (output_of show port) status (a.creates port) (c.creates port)) → IfMemory status (CreatesNothing a c)
+        by (Done tally) plays made = tt
+        by (Refused refusal) plays made = tt
+        by (SinkFault failed tally) plays made = tt
+        by Memory plays made = record {
+          ports = λ port text. line.other_ports port text ∙ port_kept port (output_of show port) refl (plays port);
+          creates = λ port. not_created (output_of show port) (a.creates port) (c.creates port) (made port);
+        }
+
+-- ---- a run that wrote on the text alone
+
+module _ (a c : HostState) (only : OnlyPort Text a c) (text_creates : c.creates Text ≡ a.creates Text) (text_falls : a.faults Text ≤ c.faults Text) where
+  all_created : (port : Port) → c.creates port ≡ a.creates port
+  all_created Video = only.other_creates Video (λ e. cc)
+  all_created Audio = only.other_creates Audio (λ e. cc)
+  all_created Script = only.other_creates Script (λ e. cc)
+  all_created Text = text_creates
+
+  pub only_tells : OnlyTells a c
+  only_tells = record { others = only.other_ports; creates = all_created }
+
+  pub text_nothing : CreatesNothing a c
+  text_nothing = record { ports = only.other_ports; creates = all_created }
+
+  text_fall : (port : Port) → a.faults port ≤ c.faults port
+  text_fall Video = let e = only.other_faults Video (λ e. cc) in omega arith
+  text_fall Audio = let e = only.other_faults Audio (λ e. cc) in omega arith
+  text_fall Script = let e = only.other_faults Script (λ e. cc) in omega arith
+  text_fall Text = text_falls
+
+  pub text_keeps : KeepsHost a c
+  text_keeps = record { files = only.files; loads = only.load_faults; never_falls = text_fall; once = λ port. inl (all_created port) }
+
+  pub text_counts : (line : List ℕ) → Tells line a c → CountsLine line a c
+  text_counts line told = record { others = only.other_faults; told = told }
+
+  -- an answer was printed
+  pub print_ends : (job : TextJob) (status : Status) → Prints (job_text job) status a c → EndsPrint job status a c
+  print_ends job status h = record { prints = by status h; rest = only_tells } where
+    by : (status : Status) → Prints (job_text job) status a c → PrintsOrTells job status a c
+    by (Done tally) h = h
+    by (Refused refusal) h = absurd h
+    by (SinkFault port tally) h = h
+    by Memory h = absurd h
+
+  same_faults : c.faults Text ≡ a.faults Text → (port : Port) → c.faults port ≡ a.faults port
+  same_faults h Video = only.other_faults Video (λ e. cc)
+  same_faults h Audio = only.other_faults Audio (λ e. cc)
+  same_faults h Script = only.other_faults Script (λ e. cc)
+  same_faults h Text = h
+
+  pub print_counts : (job : TextJob) (status : Status) → Prints (job_text job) status a c → CountsRun status a c
+  print_counts job (Done tally) h = same_faults h.2
+  print_counts job (Refused refusal) h = absurd h
+  print_counts job (SinkFault port tally) h = record {
+    rose = subst (λ p. Rose (a.faults p) (c.faults p)) (sym h.0) h.3;
+    others = λ other apart text. only.other_faults other text;
+    told = λ text. absurd (text h.0);
   }
-  by (meaning.Print job) = record { prints = told; rest = changes }
-  by (meaning.Refused refusal) = record { answer = tt; line = told; rest = changes }
+  print_counts job Memory h = absurd h
 
-asks_on : (names : List (List ℕ)) (a b c : HostState) → c.asked ≡ b.asked → Asks names a b → Asks names a c
-asks_on names a b c same h =
-    subst (λ asked. IfSome asked (λ after. IsSomeAnd a.asked (λ before. after ≡ before ++ names))) (sym same) h
+  -- a refusal was told
+  pub refused_ends : (refusal : Refusal) (status : Status) → status ≡ Refused refusal → Tells (refusal_line refusal) a c → EndsStopped (read.Refused refusal) status a c
+  refused_ends refusal status is told =
+      subst (λ s. EndsStopped (read.Refused refusal) s a c) (sym is) (record { answer = refl; line = told; rest = only_tells })
 
--- names that were asked for stay so, whatever the answer
-pub asked_from : (status : Status) (names : List (List ℕ)) (a b c : HostState) → c.asked ≡ b.asked → Asks names a b → AsksFor status names a c
-asked_from (Done tally) names a b c same h = asks_on names a b c same h
-asked_from (Refused refusal) names a b c same h = asks_on names a b c same h
-asked_from (SinkFault port tally) names a b c same h = asks_on names a b c same h
-asked_from Memory names a b c same h =
-    (length names, subst (λ all. Asks all a c) (sym (take-length names)) (asks_on names a b c same h))
+  pub refused_counts : (refusal : Refusal) (status : Status) → status ≡ Refused refusal → Tells (refusal_line refusal) a c → CountsRun status a c
+  refused_counts refusal status is told = subst (λ s. CountsRun s a c) (sym is) (text_counts (refusal_line refusal) told)
+
+  -- memory was wanting, whatever the words mean
+  memory_created : (o : Option (List ℕ)) (port : Port) → CreatesOnce o Memory (a.creates port) (c.creates port)
+  memory_created None port = all_created port
+  memory_created (Some name) port = all_created port
+
+  memory_plays : (show : Show) → Plays show Memory a c
+  memory_plays show Video = only.other_ports Video (λ e. cc)
+  memory_plays show Audio = by show.output.audio where
+    by : (o : Option (List ℕ)) → IfSome o (λ name. c.port Audio ≡ a.port Audio)
+    by None = tt
+    by (Some name) = only.other_ports Audio (λ e. cc)
+  memory_plays show Script = tt
+  memory_plays show Text = tt
+
+  pub memory_ends : (reading : Reading) (status : Status) → status ≡ Memory → Tells memory_line a c → Ends reading status a c
+  memory_ends reading status is told = subst (λ s. Ends reading s a c) (sym is) (by reading) where
+    by : (reading : Reading) → Ends reading Memory a c
+    by (Ok (Play show)) = record {
+      plays = memory_plays show;
+      rose = tt;
+      others = λ port text none. only.other_ports port text;
+      creates = λ port. memory_created (output_of show port) port;
+      line = told;
+    }
+    by (Ok (Print job)) = record { prints = told; rest = only_tells }
+    by (Err stop) = record { answer = tt; line = told; rest = only_tells }
+
+  pub memory_counts : (status : Status) → status ≡ Memory → Tells memory_line a c → CountsRun status a c
+  memory_counts status is told = subst (λ s. CountsRun s a c) (sym is) (text_counts memory_line told)

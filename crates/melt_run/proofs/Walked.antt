@@ -7,10 +7,12 @@ use Rattle.mlt_tree.specs.declared.entry.Entry.{Entry}
 use Rattle.mlt_tree.specs.declared.entry.Entry.TheVariants.{Clip, Gap}
 use Rattle.mlt_tree.specs.declared.node.Track.{Track}
 use Rattle.mlt_tree.specs.Ranges.{frames}
-use Rattle.mlt_tree.specs.Tree.{Tree, Pictures, mean, mean_in, numbers, len, or_under, rows}
+use Rattle.mlt_tree.specs.Meaning.{or_under}
+use Rattle.mlt_tree.specs.Tree.{Tree, len}
 use Rattle.mlt_tree.specs.Units.{entry_tree, parts_of, tracks_of}
-use Rattle.mlt_tree.proofs.Named.{under_some}
 use Rattle.melt_run.specs.Found.{entry_with, row_at, shown_of}
+use Rattle.melt_run.specs.Seen.{seen, seen_in, seen_rows}
+use Rattle.melt_run.proofs.Named.{under_some}
 
 same_cond : {B : Type 0} → (t : Bool) (x x' y y' : B) → x ≡ x' → y ≡ y' → cond t x y ≡ cond t x' y'
 same_cond true x x' y y' first second = first
@@ -20,7 +22,7 @@ module _ (units : ℕ → Tree) where
   -- what is seen of the entry that was found
   abbrev pub seen_of : Option (Entry × ℕ) → Option ℕ
   seen_of None = None
-  seen_of (Some found) = mean Pictures numbers (entry_tree units found.0) found.1
+  seen_of (Some found) = seen (entry_tree units found.0) found.1
 
   long : (e : Entry) → len (entry_tree units e) ≡ frames e
   long (Clip unit span filters) = refl
@@ -30,11 +32,11 @@ module _ (units : ℕ → Tree) where
   seen_cond true x y = refl
   seen_cond false x y = refl
 
-  pub seen_in : (es : List Entry) (n : ℕ) → mean_in Pictures numbers (parts_of units es) n ≡ seen_of (entry_with es n)
-  seen_in [] n = refl
-  seen_in (e ∷ es) n =
-      ap (λ l. cond (ltb n l) (mean Pictures numbers (entry_tree units e) n) (mean_in Pictures numbers (parts_of units es) (n - l))) (long e)
-      ∙ same_cond (ltb n (frames e)) _ _ _ _ refl (seen_in es (n - frames e))
+  pub seen_parts : (es : List Entry) (n : ℕ) → seen_in (parts_of units es) n ≡ seen_of (entry_with es n)
+  seen_parts [] n = refl
+  seen_parts (e ∷ es) n =
+      ap (λ l. cond (ltb n l) (seen (entry_tree units e) n) (seen_in (parts_of units es) (n - l))) (long e)
+      ∙ same_cond (ltb n (frames e)) _ _ _ _ refl (seen_parts es (n - frames e))
       ∙ sym (seen_cond (ltb n (frames e)) (Some (e, n)) (entry_with es (n - frames e)))
 
 -- what holds of each entry holds of the one that is found, and the place is one of its frames
@@ -69,7 +71,7 @@ module _ (units : ℕ → Tree) (n : ℕ) where
   rows_under tracks zero source h = h
   rows_under [] (suc i) source h = h
   rows_under (track ∷ tracks) (suc i) source h =
-      under_some (rows Pictures numbers (tracks_of units tracks) n) (row_at units n track) source (rows_under tracks i source h)
+      under_some (seen_rows (tracks_of units tracks) n) (row_at units n track) source (rows_under tracks i source h)
 
   -- a track that has something, where those above it have nothing
   pub rows_highest : (tracks : List Track) (i source : ℕ) (track : Track) → i < length tracks → track ≡ get_or tracks i track → shown_of units n (drop (i + 1) tracks) ≡ None → row_at units n track ≡ Some source → shown_of units n tracks ≡ Some source

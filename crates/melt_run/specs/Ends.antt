@@ -1,42 +1,32 @@
 -- How a run ends, by what the words mean.
-use Rattle.std.specs.Prelude.{◌≡◌, ◌≢◌, ◌≤◌}
+use Rattle.std.specs.Prelude.{◌≡◌, ◌≢◌, None, Ok, Err}
 use Rattle.mlt_base.specs.declared.port.Port.{Port}
-use Rattle.mlt_base.specs.declared.port.Port.TheVariants.{Video, Text}
-use Rattle.mlt_host.specs.Host.{HostState}
-use Rattle.mlt_tree.specs.declared.refusal.Refusal.{Refusal}
+use Rattle.mlt_base.specs.declared.port.Port.TheVariants.{Text}
+use Rattle.mlt_host.specs.Host.{HostState, Rose}
 use Rattle.mlt_tree.specs.Lines.{memory_line}
-use Rattle.mlt_tree.specs.Show.{Show}
-use Rattle.mlt_tree.specs.Reading as meaning
-use Rattle.mlt_tree.specs.Reading.{Reading, TextJob, job_text}
+use Rattle.mlt_tree.specs.Loading as read
+use Rattle.mlt_tree.specs.Loading.{Stop}
+use Rattle.mlt_tree.specs.Reading.{Reading, Play, Print, TextJob, job_text}
+use Rattle.mlt_tree.specs.Show.{Show, output_of}
 use Rattle.melt_run.specs.declared.status.Status.{Status}
 use Rattle.melt_run.specs.declared.status.Status.TheVariants.{Done, Refused, SinkFault, Memory}
-use Rattle.melt_run.specs.Status.{line_of}
 use Rattle.melt_run.specs.Outcome.{Tells}
-use Rattle.melt_run.specs.Play.{Plays}
+use Rattle.melt_run.specs.Play.{Plays, CreatesOnce}
 use Rattle.melt_run.specs.Prints.{Prints}
-
--- no port but Video and Text has changed, nor the count of another, and no count has fallen
-pub record ChangesVideoAndText (old new : HostState) : Type 0 where
-  pub files : new.files ≡ old.files
-  pub loads : old.load_faults ≤ new.load_faults
-  pub other_ports : (port : Port) → port ≢ Video → port ≢ Text → new.port port ≡ old.port port
-  pub other_faults : (port : Port) → port ≢ Video → port ≢ Text → new.faults port ≡ old.faults port
-  pub video : old.faults Video ≤ new.faults Video
-  pub text : old.faults Text ≤ new.faults Text
-
--- no port but Text has changed, nor the count of another, and no count has fallen
-pub record ChangesText (old new : HostState) : Type 0 where
-  pub files : new.files ≡ old.files
-  pub loads : old.load_faults ≤ new.load_faults
-  pub other_ports : (port : Port) → port ≢ Text → new.port port ≡ old.port port
-  pub other_faults : (port : Port) → port ≢ Text → new.faults port ≡ old.faults port
-  pub text : old.faults Text ≤ new.faults Text
+use Rattle.melt_run.specs.Status.{line_of, IfSinkFault}
 
 -- a show was played, and a line told where it was not played whole
 pub record EndsShow (show : Show) (status : Status) (old new : HostState) : Type 0 where
-  pub plays : Plays show status (old.port Video) (new.port Video) (old.faults Video) (new.faults Video)
+  pub plays : Plays show status old new
+  pub rose : IfSinkFault status (λ port tally. Rose (old.faults port) (new.faults port))
+  pub others : (port : Port) → port ≢ Text → output_of show port ≡ None → new.port port ≡ old.port port
+  pub creates : (port : Port) → CreatesOnce (output_of show port) status (old.creates port) (new.creates port)
   pub line : Tells (line_of status) old new
-  pub rest : ChangesVideoAndText old new
+
+-- no port but the text has changed
+pub record OnlyTells (old new : HostState) : Type 0 where
+  pub others : (port : Port) → port ≢ Text → new.port port ≡ old.port port
+  pub creates : (port : Port) → new.creates port ≡ old.creates port
 
 -- an answer was printed; where memory was wanting that was told in its place
 abbrev pub PrintsOrTells : TextJob → Status → HostState → HostState → Type 0
@@ -47,21 +37,22 @@ PrintsOrTells job Memory old new = Tells memory_line old new
 
 pub record EndsPrint (job : TextJob) (status : Status) (old new : HostState) : Type 0 where
   pub prints : PrintsOrTells job status old new
-  pub rest : ChangesText old new
+  pub rest : OnlyTells old new
 
--- the refusal was told, or that memory was wanting
-abbrev pub IsRefusal : Refusal → Status → Type 0
-IsRefusal refusal (Done tally) = ⊥
-IsRefusal refusal (Refused other) = other ≡ refusal
-IsRefusal refusal (SinkFault port tally) = ⊥
-IsRefusal refusal Memory = Unit {0}
+-- the answer where words are not read to their end; no word that is built names a file that could be missing
+abbrev pub IsStop : Stop → Status → Type 0
+IsStop stop (Done tally) = ⊥
+IsStop stop (Refused refusal) = stop ≡ read.Refused refusal
+IsStop stop (SinkFault port tally) = ⊥
+IsStop stop Memory = Unit {0}
 
-pub record EndsRefused (refusal : Refusal) (status : Status) (old new : HostState) : Type 0 where
-  pub answer : IsRefusal refusal status
+-- why they are not was told, or that memory was wanting
+pub record EndsStopped (stop : Stop) (status : Status) (old new : HostState) : Type 0 where
+  pub answer : IsStop stop status
   pub line : Tells (line_of status) old new
-  pub rest : ChangesText old new
+  pub rest : OnlyTells old new
 
 abbrev pub Ends : Reading → Status → HostState → HostState → Type 0
-Ends (meaning.Play show) status old new = EndsShow show status old new
-Ends (meaning.Print job) status old new = EndsPrint job status old new
-Ends (meaning.Refused refusal) status old new = EndsRefused refusal status old new
+Ends (Ok (Play show)) status old new = EndsShow show status old new
+Ends (Ok (Print job)) status old new = EndsPrint job status old new
+Ends (Err stop) status old new = EndsStopped stop status old new

@@ -5,6 +5,7 @@ pub mod Pixels
 pub mod Play
 pub mod Prepared
 pub mod Prints
+pub mod Seen
 pub mod Show
 pub mod Status
 pub mod Text

@@ -1,17 +1,21 @@
 -- What the top call leaves on a host, by its answer and by what the words mean.
-use Rattle.std.specs.Prelude.{◌≡◌, ◌≢◌, ◌⊎◌, ◌≤◌, ◌++◌, ℕ, List, [], ◌∷◌, length, take, Option, None, Some, IfSome}
+use Rattle.std.specs.Prelude.{◌≡◌, ◌≢◌, ◌⊎◌, ◌≤◌, ◌++◌, ℕ, List, [], ◌∷◌, length, take, Option, None, Some, Ok, Err, IfSome}
+use Rattle.std.specs.Option.{option_map}
 use Rattle.mlt_base.specs.declared.port.Port.{Port}
-use Rattle.mlt_base.specs.declared.port.Port.TheVariants.{Video, Text}
+use Rattle.mlt_base.specs.declared.port.Port.TheVariants.{Text}
+use Rattle.mlt_host.specs.Count.{next}
 use Rattle.mlt_host.specs.Host.{PortState, HostState, Rose, Appends, AppendsFront}
-use Rattle.mlt_tree.specs.Reading as meaning
-use Rattle.mlt_tree.specs.Reading.{Reading, Written, written, text_bytes}
-use Rattle.mlt_tree.specs.Show.{written_frames}
+use Rattle.mlt_tree.specs.Lines.{refusal_line, sink_line, memory_line}
+use Rattle.mlt_tree.specs.Reading.{Reading, Play, Print, Written, job_port, text_bytes}
+use Rattle.mlt_tree.specs.Show.{output_of, written_frames}
 use Rattle.melt_run.specs.declared.status.Tally.{Tally}
 use Rattle.melt_run.specs.declared.status.Status.{Status}
 use Rattle.melt_run.specs.declared.status.Status.TheVariants.{Done, Refused, SinkFault, Memory}
-use Rattle.melt_run.specs.Play.{no_tally, full_tally, Stops}
+use Rattle.melt_run.specs.Play.{no_tally, full_tally, Stops, CreatesOnce}
 use Rattle.melt_run.specs.Prepared.{Asks}
 use Rattle.melt_run.specs.Status.{line_of}
+
+-- ---- what each output has got
 
 -- the port has this name and a front of these bytes
 pub record HasFrontOf (wanted : Written) (port : PortState) : Type 0 where
@@ -29,49 +33,30 @@ IsWritten None old new = new ≡ old
 IsWritten (Some wanted) old new =
     IfSome new (λ port. port ≡ record { name = wanted.name; bytes = wanted.bytes; acknowledged = length wanted.bytes })
 
+-- a port that the run does not write is not created; an output is created once at most, and once where all is done
+abbrev pub IsCreatedOnce : Option Written → Status → ℕ → ℕ → Type 0
+IsCreatedOnce wanted status old new = CreatesOnce (option_map (λ w. w.name) wanted) status old new
+
+-- nothing was created
+pub record CreatesNothing (old new : HostState) : Type 0 where
+  pub ports : (port : Port) → port ≢ Text → new.port port ≡ old.port port
+  pub creates : (port : Port) → new.creates port ≡ old.creates port
+
+-- ---- how a run ends
+
 -- the accounts of a run that is done
 abbrev pub IsWholeTally : Reading → Tally → Type 0
-IsWholeTally (meaning.Play show) tally = tally ≡ full_tally show (written_frames show)
-IsWholeTally (meaning.Print job) tally = tally ≡ no_tally
-IsWholeTally (meaning.Refused refusal) tally = ⊥
+IsWholeTally (Ok (Play show)) tally = tally ≡ full_tally show (written_frames show)
+IsWholeTally (Ok (Print job)) tally = tally ≡ no_tally
+IsWholeTally (Err stop) tally = ⊥
 
--- a port that the run writes has failed, and has the positions before the fault and a front of the next
+-- a port that the run writes has failed: each output has the positions before the fault, and the failed one a part of the next
 abbrev pub FailsAt : Reading → Port → Tally → HostState → HostState → Type 0
-FailsAt (meaning.Play show) port tally old new =
-    (port ≡ Video) × Rose (old.faults Video) (new.faults Video) × Stops show tally (old.port Video) (new.port Video)
-FailsAt (meaning.Print job) port tally old new =
-    (port ≡ Text) × (tally ≡ no_tally) × Rose (old.faults Text) (new.faults Text)
-FailsAt (meaning.Refused refusal) port tally old new = ⊥
-
--- the text that a person reads has got a line: whole, or a front of it where the count of its faults rose
-abbrev pub Tells : List ℕ → HostState → HostState → Type 0
-Tells [] old new = (new.port Text ≡ old.port Text) × (new.faults Text ≡ old.faults Text)
-Tells (c ∷ line) old new =
-    (Appends Text old new (c ∷ line) × (new.faults Text ≡ old.faults Text)) ⊎ (AppendsFront Text old new (c ∷ line) × Rose (old.faults Text) (new.faults Text))
-
--- what the text that a person reads has got: an answer, whole or a front of it where the count of its
--- faults rose, and no line then; else the line of the run's end
-abbrev pub Says : Reading → Status → HostState → HostState → Type 0
-Says (meaning.Play show) status old new = Tells (line_of status) old new
-Says (meaning.Print job) (Done tally) old new = Appends Text old new (text_bytes (meaning.Print job))
-Says (meaning.Print job) (Refused refusal) old new = ⊥
-Says (meaning.Print job) (SinkFault port tally) old new = AppendsFront Text old new (text_bytes (meaning.Print job))
-Says (meaning.Print job) Memory old new = Tells (line_of Memory) old new
-Says (meaning.Refused refusal) status old new = Tells (line_of status) old new
-
--- all of these names were asked for; some of the first of them where memory was wanting
-abbrev pub AsksFor : Status → List (List ℕ) → HostState → HostState → Type 0
-AsksFor (Done tally) names old new = Asks names old new
-AsksFor (Refused refusal) names old new = Asks names old new
-AsksFor (SinkFault port tally) names old new = Asks names old new
-AsksFor Memory names old new = (count : ℕ) × Asks (take count names) old new
-
--- no count falls, the files stay, and so does the count of each port that the run does not write
-pub record Keeps (reading : Reading) (old new : HostState) : Type 0 where
-  pub files : new.files ≡ old.files
-  pub loads : old.load_faults ≤ new.load_faults
-  pub faults : (port : Port) → old.faults port ≤ new.faults port
-  pub others : (port : Port) → port ≢ Text → written reading port ≡ None → new.faults port ≡ old.faults port
+FailsAt (Ok (Play show)) port tally old new =
+    (output_of show port ≢ None) × Rose (old.faults port) (new.faults port) × Stops show port tally old new
+FailsAt (Ok (Print job)) port tally old new =
+    (port ≡ job_port job) × (tally ≡ no_tally) × Rose (old.faults port) (new.faults port)
+FailsAt (Err stop) port tally old new = ⊥
 
 -- the call counted no fault
 pub record MeetsNoFault (old new : HostState) : Type 0 where
@@ -87,10 +72,57 @@ IsDoneOrMemory Memory = Unit {0}
 
 -- whether there is something to play or to print
 abbrev pub IsAccepted : Reading → Type 0
-IsAccepted (meaning.Play show) = Unit {0}
-IsAccepted (meaning.Print job) = Unit {0}
-IsAccepted (meaning.Refused refusal) = ⊥
+IsAccepted (Ok job) = Unit {0}
+IsAccepted (Err stop) = ⊥
 
--- nothing was created
-abbrev pub CreatesNothing : HostState → HostState → Type 0
-CreatesNothing old new = (port : Port) → port ≢ Text → new.port port ≡ old.port port
+-- ---- what a person has read
+
+-- the text that a person reads has got a line: whole, or a front of it where the count of its faults rose
+abbrev pub Tells : List ℕ → HostState → HostState → Type 0
+Tells [] old new = (new.port Text ≡ old.port Text) × (new.faults Text ≡ old.faults Text)
+Tells (c ∷ line) old new =
+    (Appends Text old new (c ∷ line) × (new.faults Text ≡ old.faults Text)) ⊎ (AppendsFront Text old new (c ∷ line) × Rose (old.faults Text) (new.faults Text))
+
+-- what the text that a person reads has got: an answer, whole or a front of it where the count of its
+-- faults rose, and no line then; else the line of the run's end
+abbrev pub Says : Reading → Status → HostState → HostState → Type 0
+Says (Ok (Play show)) status old new = Tells (line_of status) old new
+Says (Ok (Print job)) (Done tally) old new = Appends Text old new (text_bytes (Ok (Print job)))
+Says (Ok (Print job)) (Refused refusal) old new = ⊥
+Says (Ok (Print job)) (SinkFault port tally) old new = AppendsFront Text old new (text_bytes (Ok (Print job)))
+Says (Ok (Print job)) Memory old new = Tells (line_of Memory) old new
+Says (Err stop) status old new = Tells (line_of status) old new
+
+-- all of these names were asked for; some of the first of them where memory was wanting
+abbrev pub AsksFor : Status → List (List ℕ) → HostState → HostState → Type 0
+AsksFor (Done tally) names old new = Asks names old new
+AsksFor (Refused refusal) names old new = Asks names old new
+AsksFor (SinkFault port tally) names old new = Asks names old new
+AsksFor Memory names old new = (count : ℕ) × Asks (take count names) old new
+
+-- ---- what holds on every host, whatever it tells
+
+-- a line was told, and no count of faults but the text's may have risen
+pub record CountsLine (line : List ℕ) (old new : HostState) : Type 0 where
+  pub others : (port : Port) → port ≢ Text → new.faults port ≡ old.faults port
+  pub told : Tells line old new
+
+-- the count of the port that failed rose, and no other but the text's; a line was told unless the text failed itself
+pub record CountsFault (failed : Port) (old new : HostState) : Type 0 where
+  pub rose : Rose (old.faults failed) (new.faults failed)
+  pub others : (port : Port) → port ≢ failed → port ≢ Text → new.faults port ≡ old.faults port
+  pub told : failed ≢ Text → Tells (sink_line failed) old new
+
+-- how the counts of faults go: none has risen where all is done
+abbrev pub CountsRun : Status → HostState → HostState → Type 0
+CountsRun (Done tally) old new = (port : Port) → new.faults port ≡ old.faults port
+CountsRun (Refused refusal) old new = CountsLine (refusal_line refusal) old new
+CountsRun (SinkFault port tally) old new = CountsFault port old new
+CountsRun Memory old new = CountsLine memory_line old new
+
+-- the files stay, no load has failed, no count of faults has fallen, and no port was created twice
+pub record KeepsHost (old new : HostState) : Type 0 where
+  pub files : new.files ≡ old.files
+  pub loads : new.load_faults ≡ old.load_faults
+  pub never_falls : (port : Port) → old.faults port ≤ new.faults port
+  pub once : (port : Port) → (new.creates port ≡ old.creates port) ⊎ (new.creates port ≡ next (old.creates port))

@@ -4,7 +4,8 @@ ghost use Rattle.std.specs.Prelude.{◌≡◌, ◌≤◌, ◌*◌, length, take}
 ghost use Rattle.std.specs.Option.{option_map, option_to_list};
 ghost use Rattle.mlt_tree.specs.Picture.{on_black, plain};
 ghost use Rattle.mlt_tree.specs.Show.{video_of, packed};
-ghost use Rattle.mlt_tree.specs.Tree.{needs};
+ghost use Rattle.mlt_tree.specs.Needs.{needs};
+ghost use Rattle.mlt_tree.specs.Unbuilt.{IsPlain};
 ghost use Rattle.mlt_graph.specs.Piece.{piece_of, pixel_bytes};
 ghost use Rattle.mlt_graph.specs.Sealed.{tree};
 ghost use Rattle.mlt_graph.specs.Show.{meant, pix_of};
@@ -92,7 +93,8 @@ fn loads_of(source: Option<SourceNo>) -> u64
 /// Draws the picture of a position, as it is written, into the first bytes of a frame's buffer, and
 /// answers how many sources it was made of.
 pub(crate) fn draw(show: &Show, table: &SourceTable, at: u32, buffer: &mut [u8]) -> u64
-    requires { length buffer.old ≡ piece_of show.now.output show.now.profile }
+    requires length { length buffer.old ≡ piece_of show.now.output show.now.profile }
+    requires plain { IsPlain (tree show.now.sealed) }
     ensures picture { take (picture_bytes show.now) buffer.new ≡ video_of (meant show.now table.now) at }
     ensures length { length buffer.new ≡ length buffer.old }
     ensures loads { result ≡ length (needs (tree show.now.sealed) at) }

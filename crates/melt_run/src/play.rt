@@ -9,10 +9,11 @@ ghost use Rattle.mlt_graph.specs.Piece.{piece_of};
 ghost use Rattle.mlt_graph.specs.Sealed.{tree};
 ghost use Rattle.mlt_graph.specs.Show.{meant};
 ghost use Rattle.mlt_tree.specs.Show.{video_of};
+ghost use Rattle.mlt_tree.specs.Needs.{needs};
 ghost use Rattle.mlt_tree.specs.Sources.{Fits};
-ghost use Rattle.mlt_tree.specs.Tree.{needs};
+ghost use Rattle.mlt_tree.specs.Unbuilt.{IsPlain, IsPlayed};
 ghost use Rattle.melt_run.specs.Pixels.{picture_bytes};
-ghost use Rattle.melt_run.specs.Play.{Plays};
+ghost use Rattle.melt_run.specs.Play.{Plays, KeepsElse};
 
 use crate::draw::{draw, picture_bytes};
 use crate::status::{Status, Tally};
@@ -61,7 +62,8 @@ fn piece(show: &Show) -> usize
 
 /// Draws a position into the buffer, and answers how many pictures it was made of.
 fn draw_into(show: &Show, table: &SourceTable, at: u32, lease: &mut Lease) -> u64
-    requires { length lease.old ≡ piece_of show.now.output show.now.profile }
+    requires length { length lease.old ≡ piece_of show.now.output show.now.profile }
+    requires plain { IsPlain (tree show.now.sealed) }
     ensures picture { take (picture_bytes show.now) lease.new ≡ video_of (meant show.now table.now) at }
     ensures length { length lease.new ≡ length lease.old }
     ensures loads { result ≡ length (needs (tree show.now.sealed) at) }
@@ -79,11 +81,14 @@ fn play_frame<H: Host>(
     host: &mut H,
     pool: &mut Pool,
 ) -> Result<u64, Failed>
-    requires { 0 < home_of pool.old (class_of (piece_of show.now.output show.now.profile)) }
+    requires block { 0 < home_of pool.old (class_of (piece_of show.now.output show.now.profile)) }
+    requires plain { IsPlain (tree show.now.sealed) }
     ensures ok { OnOk result (Appends Video (H.state host.old) (H.state host.new) (video_of (meant show.now table.now) at)) }
     ensures failed { OnErr result (AppendsFront Video (H.state host.old) (H.state host.new) (video_of (meant show.now table.now) at)) }
     ensures loads { IfOk result (λ loads. (loads ≡ length (needs (tree show.now.sealed) at)) × (loads ≤ 1)) }
     ensures cause { Counts ((H.state host.old).faults Video) ((H.state host.new).faults Video) result }
+    ensures no_fault { OnOk result ((H.state host.new).faults Video ≡ (H.state host.old).faults Video) }
+    ensures creates { (H.state host.new).creates Video ≡ (H.state host.old).creates Video }
     ensures rest { OnlyPort Video (H.state host.old) (H.state host.new) }
     ensures home { home_of pool.new (class_of (piece_of show.now.output show.now.profile)) ≡ home_of pool.old (class_of (piece_of show.now.output show.now.profile)) }
     ensures lent { all_lent pool.new ≡ all_lent pool.old }
@@ -99,12 +104,10 @@ fn play_frame<H: Host>(
 
 /// Creates Video and plays each position, with a pool that has a block for a frame at home.
 fn play_frames<H: Host>(show: &Show, table: &SourceTable, host: &mut H, pool: &mut Pool) -> Status
-    requires { 0 < home_of pool.old (class_of (piece_of show.now.output show.now.profile)) }
-    ensures plays { Plays (meant show.now table.now) result
-        ((H.state host.old).port Video) ((H.state host.new).port Video)
-        ((H.state host.old).faults Video) ((H.state host.new).faults Video) }
-    ensures never_falls { (H.state host.old).faults Video ≤ (H.state host.new).faults Video }
-    ensures rest { OnlyPort Video (H.state host.old) (H.state host.new) }
+    requires block { 0 < home_of pool.old (class_of (piece_of show.now.output show.now.profile)) }
+    requires played { IsPlayed (meant show.now table.now) }
+    ensures plays { Plays (meant show.now table.now) result (H.state host.old) (H.state host.new) }
+    ensures keeps { KeepsElse (meant show.now table.now) result (H.state host.old) (H.state host.new) }
     ensures lent { all_lent pool.new ≡ all_lent pool.old }
 {
     let Ok(()) = host.create(Port::Video, show.output.video.as_str()) else {
@@ -124,11 +127,9 @@ fn play_frames<H: Host>(show: &Show, table: &SourceTable, host: &mut H, pool: &m
 
 /// Plays the show with a pool that is made for it and closed at the end.
 fn play_all<H: Host>(alloc: Global, show: &Show, table: &SourceTable, host: &mut H) -> Status
-    ensures plays { Plays (meant show.now table.now) result
-        ((H.state host.old).port Video) ((H.state host.new).port Video)
-        ((H.state host.old).faults Video) ((H.state host.new).faults Video) }
-    ensures never_falls { (H.state host.old).faults Video ≤ (H.state host.new).faults Video }
-    ensures rest { OnlyPort Video (H.state host.old) (H.state host.new) }
+    requires { IsPlayed (meant show.now table.now) }
+    ensures plays { Plays (meant show.now table.now) result (H.state host.old) (H.state host.new) }
+    ensures keeps { KeepsElse (meant show.now table.now) result (H.state host.old) (H.state host.new) }
 {
     let mut pool = Pool::new(alloc);
     let status = match pool.reserve(class::of_length(piece(show)), 1) {
@@ -144,13 +145,13 @@ fn play_all<H: Host>(alloc: Global, show: &Show, table: &SourceTable, host: &mut
 /// It answers `Done` where every call of the host was Ok, `SinkFault` at the first that was not, and
 /// `Memory` with nothing created. It waits for nobody. The one block of a frame's buffer is taken before
 /// the output is created, and each frame is drawn into it; it is given back at the end.
+///
+/// The table fits what is played. Until they are built, that has no filter, nothing planted and no sound.
 pub fn play_serial<H: Host>(alloc: Global, show: Show, table: SourceTable, host: &mut H) -> Status
-    requires { Fits table (tree show.sealed) }
-    ensures plays { Plays (meant show table) result
-        ((H.state host.old).port Video) ((H.state host.new).port Video)
-        ((H.state host.old).faults Video) ((H.state host.new).faults Video) }
-    ensures never_falls { (H.state host.old).faults Video ≤ (H.state host.new).faults Video }
-    ensures rest { OnlyPort Video (H.state host.old) (H.state host.new) }
+    requires fits { Fits table (tree show.sealed) }
+    requires played { IsPlayed (meant show table) }
+    ensures plays { Plays (meant show table) result (H.state host.old) (H.state host.new) }
+    ensures keeps { KeepsElse (meant show table) result (H.state host.old) (H.state host.new) }
 {
     play_all(alloc, &show, &table, host)
 }

@@ -1,17 +1,20 @@
 //! From words to what is played or printed.
 
-ghost use Rattle.std.specs.Prelude.{◌≡◌, All, None, Option, find};
+ghost use Rattle.std.specs.Prelude.{◌≡◌, All, None, Option, IfSome, find};
 ghost use Rattle.std.specs.Option.{option_copied};
 ghost use Rattle.std.specs.List.{list_any};
 ghost use Rattle.mlt_host.specs.Host.{OnlyLoads};
+ghost use Rattle.mlt_tree.specs.Composing.{show_of};
 ghost use Rattle.mlt_tree.specs.GroupWords.{IsAllowed, words_in};
+ghost use Rattle.mlt_tree.specs.Loading.{Files};
 ghost use Rattle.mlt_tree.specs.Reading as meaning;
 ghost use Rattle.mlt_tree.specs.Refusing.{over, refusal_at as refusal_of};
-ghost use Rattle.mlt_tree.specs.Sealing.{show_of};
 ghost use Rattle.mlt_tree.specs.Sources.{Fits};
-ghost use Rattle.melt_run.specs.Show.{texts};
+ghost use Rattle.mlt_tree.specs.Unbuilt.{IsPlayed};
 ghost use Rattle.mlt_graph.specs.Sealed.{tree};
-ghost use Rattle.melt_run.specs.Prepared.{Meant, Reads, IfPlay, AsksForWords};
+ghost use Rattle.mlt_graph.specs.Show.{meant};
+ghost use Rattle.melt_run.specs.Prepared.{Meant, Means, Reads, IfPlay, names_on, AsksWhilePreparing};
+ghost use Rattle.melt_run.specs.Show.{texts};
 
 use crate::text::TextJob;
 use melt_build::{BuildFault, SourceTable, build};
@@ -32,40 +35,30 @@ pub enum Prepared {
     Memory,
 }
 
-fn is_version(group: &Group) -> bool
-    ensures { result ≡ meaning.is_version group.now }
+/// Whether a group is of this kind.
+fn is_of(kind: GroupKind, group: &Group) -> bool
+    ensures { result ≡ meaning.is_of kind group.now }
 {
-    match group.kind {
-        GroupKind::Version => true,
-        _ => false,
-    }
+    kind == group.kind
 }
 
-fn is_query(group: &Group) -> bool
-    ensures { result ≡ meaning.is_query group.now }
+/// Whether there is a group of this kind.
+fn has(kind: GroupKind, groups: &[Group]) -> bool
+    ensures { result ≡ list_any (meaning.is_of kind) groups.now }
 {
-    match group.kind {
-        GroupKind::Query => true,
-        _ => false,
-    }
+    groups.iter().any(|group| is_of(kind, group))
 }
 
-fn is_serialise(group: &Group) -> bool
-    ensures { result ≡ meaning.is_serialise group.now }
+/// The first group of this kind.
+fn first_of(kind: GroupKind, groups: &[Group]) -> Option<&Group>
+    ensures { option_copied result ≡ find (meaning.is_of kind) groups.now }
 {
-    match group.kind {
-        GroupKind::Serialise => true,
-        _ => false,
+    for group in groups {
+        if is_of(kind, group) {
+            return Some(group);
+        }
     }
-}
-
-fn is_generate(group: &Group) -> bool
-    ensures { result ≡ meaning.is_generate group.now }
-{
-    match group.kind {
-        GroupKind::Generate => true,
-        _ => false,
-    }
+    None
 }
 
 /// The list of names that the argument of `-query` asks for.
@@ -99,7 +92,7 @@ fn first_query(asked: Option<QueryKind>, group: &Group) -> Result<Option<QueryKi
 fn query_step(asked: Option<QueryKind>, group: &Group) -> Result<Option<QueryKind>, Refusal>
     ensures { result ≡ meaning.query_step asked group.now }
 {
-    if is_query(group) {
+    if is_of(GroupKind::Query, group) {
         first_query(asked, group)
     } else {
         Ok(asked)
@@ -117,6 +110,7 @@ fn asked(groups: &[Group]) -> Result<Option<QueryKind>, Refusal>
     Ok(asked)
 }
 
+/// The list that `-query` asks for.
 fn query(groups: &[Group]) -> Prepared
     ensures { Reads result (meaning.query_read (over meaning.query_step None groups.now)) }
 {
@@ -127,43 +121,24 @@ fn query(groups: &[Group]) -> Prepared
     }
 }
 
-fn find_serialise(groups: &[Group]) -> Option<&Group>
-    ensures { option_copied result ≡ find meaning.is_serialise groups.now }
-{
-    for group in groups {
-        if is_serialise(group) {
-            return Some(group);
-        }
-    }
-    None
-}
-
-fn find_generate(groups: &[Group]) -> Option<&Group>
-    ensures { option_copied result ≡ find meaning.is_generate groups.now }
-{
-    for group in groups {
-        if is_generate(group) {
-            return Some(group);
-        }
-    }
-    None
-}
-
 /// The first `-serialise`, else the first `-generate`: the jobs that are not built yet.
 fn later_job(groups: &[Group]) -> Option<&Group>
     ensures { option_copied result ≡ meaning.later_job groups.now }
 {
-    match find_serialise(groups) {
+    match first_of(GroupKind::Serialise, groups) {
         Some(group) => Some(group),
-        None => find_generate(groups),
+        None => first_of(GroupKind::Generate, groups),
     }
 }
 
 /// The show that the groups mean.
 fn play<H: Host>(alloc: Global, groups: &GroupList, host: &mut H) -> Prepared
     requires { All IsAllowed groups.now }
-    ensures reads { Reads result (meaning.show_read (show_of (words_in groups.now) groups.now)) }
+    ensures reads { (files : Files) → Reads result (meaning.show_read (show_of files (words_in groups.now) groups.now)) }
+    ensures fits { IfPlay result (λ show table. Fits table (tree show.sealed)) }
+    ensures played { IfPlay result (λ show table. IsPlayed (meant show table)) }
     ensures asked { (H.state host.new).asked ≡ (H.state host.old).asked }
+    ensures loads { (H.state host.new).load_faults ≡ (H.state host.old).load_faults }
     ensures rest { OnlyLoads (H.state host.old) (H.state host.new) }
 {
     match build(alloc, groups, host) {
@@ -173,30 +148,21 @@ fn play<H: Host>(alloc: Global, groups: &GroupList, host: &mut H) -> Prepared
     }
 }
 
-fn has_version(groups: &[Group]) -> bool
-    ensures { result ≡ list_any meaning.is_version groups.now }
-{
-    groups.iter().any(|group| is_version(group))
-}
-
-fn has_query(groups: &[Group]) -> bool
-    ensures { result ≡ list_any meaning.is_query groups.now }
-{
-    groups.iter().any(|group| is_query(group))
-}
-
 /// The first of the jobs that the groups have, else to play.
 fn job<H: Host>(alloc: Global, groups: &GroupList, host: &mut H) -> Prepared
     requires { All IsAllowed groups.now }
-    ensures reads { Reads result (meaning.job_of (words_in groups.now) groups.now) }
+    ensures reads { (files : Files) → Reads result (meaning.job_of files (words_in groups.now) groups.now) }
+    ensures fits { IfPlay result (λ show table. Fits table (tree show.sealed)) }
+    ensures played { IfPlay result (λ show table. IsPlayed (meant show table)) }
     ensures asked { (H.state host.new).asked ≡ (H.state host.old).asked }
+    ensures loads { (H.state host.new).load_faults ≡ (H.state host.old).load_faults }
     ensures rest { OnlyLoads (H.state host.old) (H.state host.new) }
 {
     let list = groups.as_slice();
-    if has_version(list) {
+    if has(GroupKind::Version, list) {
         return Prepared::Text(TextJob::Version);
     }
-    if has_query(list) {
+    if has(GroupKind::Query, list) {
         return query(list);
     }
     match later_job(list) {
@@ -226,8 +192,11 @@ fn word_refusal(fault: WordFault) -> Refusal
 
 /// What the words mean.
 fn read<H: Host>(alloc: Global, words: &[String], host: &mut H) -> Prepared
-    ensures reads { Reads result (meaning.reading (texts words.now) meaning.no_files) }
+    ensures reads { (files : Files) → Reads result (meaning.words_read (texts words.now) files) }
+    ensures fits { IfPlay result (λ show table. Fits table (tree show.sealed)) }
+    ensures played { IfPlay result (λ show table. IsPlayed (meant show table)) }
     ensures asked { (H.state host.new).asked ≡ (H.state host.old).asked }
+    ensures loads { (H.state host.new).load_faults ≡ (H.state host.old).load_faults }
     ensures rest { OnlyLoads (H.state host.old) (H.state host.new) }
 {
     match groups(alloc, words) {
@@ -239,11 +208,15 @@ fn read<H: Host>(alloc: Global, words: &[String], host: &mut H) -> Prepared
 
 /// Reads the words, and loads the files that they name; no word that is built names one.
 ///
-/// It creates and appends nothing. `Refused` is the words' refusal, and `Memory` is want of memory.
+/// It creates and appends nothing, and no count of faults changes. `Play` is a show with a table that fits
+/// it. `Refused` is the words' refusal, and `Memory` is want of memory.
 pub fn prepare<H: Host>(alloc: Global, words: &[String], host: &mut H) -> Prepared
-    ensures reads { Meant (texts words.now) (H.state host.old) (Reads result) }
+    ensures means { Meant (texts words.now) (H.state host.old) (Means result) }
     ensures fits { IfPlay result (λ show table. Fits table (tree show.sealed)) }
-    ensures asked { AsksForWords result (texts words.now) (H.state host.old) (H.state host.new) }
+    ensures played { IfPlay result (λ show table. IsPlayed (meant show table)) }
+    ensures asked { IfSome (names_on (texts words.now) (H.state host.old).files) (λ names.
+        AsksWhilePreparing result names (H.state host.old) (H.state host.new)) }
+    ensures loads { (H.state host.new).load_faults ≡ (H.state host.old).load_faults }
     ensures rest { OnlyLoads (H.state host.old) (H.state host.new) }
 {
     read(alloc, words, host)

@@ -1,20 +1,21 @@
 //! The top call.
 
-ghost use Rattle.std.specs.Prelude.{◌≡◌, ◌≢◌, ◌⊎◌, ◌≤◌};
+ghost use Rattle.std.specs.Prelude.{◌≡◌, ◌≢◌, ◌⊎◌, ◌≤◌, Err, IfSome};
 ghost use Rattle.mlt_base.specs.declared.port.Port.{Port};
-ghost use Rattle.mlt_base.specs.declared.port.Port.TheVariants.{Video, Text};
+ghost use Rattle.mlt_base.specs.declared.port.Port.TheVariants.{Text};
 ghost use Rattle.mlt_host.specs.Host.{OnlyPort};
-ghost use Rattle.mlt_tree.specs.declared.refusal.Refusal.{Refusal};
-ghost use Rattle.mlt_tree.specs.Reading as meaning;
+ghost use Rattle.mlt_tree.specs.Loading as read;
 ghost use Rattle.mlt_tree.specs.Reading.{written};
 ghost use Rattle.mlt_tree.specs.Sources.{Fits};
+ghost use Rattle.mlt_tree.specs.Unbuilt.{IsPlayed};
+ghost use Rattle.mlt_tree.specs.declared.refusal.Refusal.{Refusal};
 ghost use Rattle.mlt_graph.specs.Sealed.{tree};
 ghost use Rattle.mlt_graph.specs.Show.{meant};
+ghost use Rattle.melt_run.specs.Ends.{Ends, EndsShow};
+ghost use Rattle.melt_run.specs.Outcome.{IsWritten, IsCreatedOnce, IsWholeTally, FailsAt, Leaves, Tells, AsksFor, MeetsNoFault, IsDoneOrMemory, IsAccepted, CreatesNothing, Says, CountsRun, KeepsHost};
+ghost use Rattle.melt_run.specs.Prepared.{Meant, names_on};
 ghost use Rattle.melt_run.specs.Show.{texts};
 ghost use Rattle.melt_run.specs.Status.{line_of, IfDone, IfRefused, IfSinkFault, IfMemory};
-ghost use Rattle.melt_run.specs.Prepared.{Meant, loads_on};
-ghost use Rattle.melt_run.specs.Outcome.{IsWritten, IsWholeTally, FailsAt, Leaves, Tells, AsksFor, Keeps, MeetsNoFault, IsDoneOrMemory, IsAccepted, CreatesNothing, Says};
-ghost use Rattle.melt_run.specs.Ends.{Ends, EndsShow};
 
 use crate::gate::Gate;
 use crate::line::fault_line;
@@ -32,6 +33,7 @@ use std::alloc::Global;
 fn tell<H: Host>(host: &mut H, status: &Status)
     ensures line { Tells (line_of status.now) (H.state host.old) (H.state host.new) }
     ensures never_falls { (H.state host.old).faults Text ≤ (H.state host.new).faults Text }
+    ensures creates { (H.state host.new).creates Text ≡ (H.state host.old).creates Text }
     ensures rest { OnlyPort Text (H.state host.old) (H.state host.new) }
 {
     let line = fault_line(status);
@@ -45,6 +47,7 @@ fn told<H: Host>(host: &mut H, status: Status) -> Status
     ensures same { result ≡ status }
     ensures line { Tells (line_of status) (H.state host.old) (H.state host.new) }
     ensures never_falls { (H.state host.old).faults Text ≤ (H.state host.new).faults Text }
+    ensures creates { (H.state host.new).creates Text ≡ (H.state host.old).creates Text }
     ensures rest { OnlyPort Text (H.state host.old) (H.state host.new) }
 {
     tell(host, &status);
@@ -53,8 +56,11 @@ fn told<H: Host>(host: &mut H, status: Status) -> Status
 
 /// Plays the show, and tells where it was not played whole.
 fn played<H: Host>(alloc: Global, show: Show, table: SourceTable, host: &mut H) -> Status
-    requires { Fits table (tree show.sealed) }
+    requires fits { Fits table (tree show.sealed) }
+    requires played { IsPlayed (meant show table) }
     ensures ends { EndsShow (meant show table) result (H.state host.old) (H.state host.new) }
+    ensures counts { CountsRun result (H.state host.old) (H.state host.new) }
+    ensures keeps { KeepsHost (H.state host.old) (H.state host.new) }
     ensures nothing { IfMemory result (CreatesNothing (H.state host.old) (H.state host.new)) }
     ensures asked { (H.state host.new).asked ≡ (H.state host.old).asked }
     ensures never_refused { IfRefused result (λ _. ⊥) }
@@ -67,9 +73,11 @@ fn played<H: Host>(alloc: Global, show: Show, table: SourceTable, host: &mut H) 
 /// Does what the words mean.
 fn run<H: Host>(alloc: Global, words: &[String], host: &mut H) -> Status
     ensures ends { Meant (texts words.now) (H.state host.old) (λ reading. Ends reading result (H.state host.old) (H.state host.new)) }
+    ensures counts { CountsRun result (H.state host.old) (H.state host.new) }
+    ensures keeps { KeepsHost (H.state host.old) (H.state host.new) }
     ensures untouched { IfRefused result (λ _. CreatesNothing (H.state host.old) (H.state host.new)) }
     ensures nothing { IfMemory result (CreatesNothing (H.state host.old) (H.state host.new)) }
-    ensures asked { AsksFor result (loads_on (texts words.now) (H.state host.old).files) (H.state host.old) (H.state host.new) }
+    ensures asked { IfSome (names_on (texts words.now) (H.state host.old).files) (λ names. AsksFor result names (H.state host.old) (H.state host.new)) }
 {
     match prepare(alloc, words, host) {
         Prepared::Play(show, table) => played(alloc, show, table, host),
@@ -93,17 +101,23 @@ pub fn melt<R, H: Host, G: Gate>(
     host: &mut H,
     _gate: &G,
 ) -> Status
+    // On every host, whatever it tells: no count of faults has risen where all is done, and else the one that the
+    // answer names, with a line that says so; no port was created twice, and none where nothing was played.
+    ensures counts { CountsRun result (H.state host.old) (H.state host.new) }
+    ensures keeps { KeepsHost (H.state host.old) (H.state host.new) }
+    ensures untouched { IfRefused result (λ _. CreatesNothing (H.state host.old) (H.state host.new)) }
+    ensures nothing { IfMemory result (CreatesNothing (H.state host.old) (H.state host.new)) }
+
     // Where it is done each output has its name and all of its bytes, acknowledged, and the accounts are exact.
     ensures written { Meant (texts words.now) (H.state host.old) (λ reading. IfDone result (λ _.
         (port : Port) → port ≢ Text → IsWritten (written reading port) ((H.state host.old).port port) ((H.state host.new).port port))) }
     ensures tally { Meant (texts words.now) (H.state host.old) (λ reading. IfDone result (IsWholeTally reading)) }
 
-    // The words' refusal is answered exactly where they have one, up to memory, and creates nothing.
-    ensures refused { Meant (texts words.now) (H.state host.old) (λ reading. IfRefused result (λ refusal. reading ≡ meaning.Refused refusal)) }
+    // The words' refusal is answered exactly where they have one, up to memory.
+    ensures refused { Meant (texts words.now) (H.state host.old) (λ reading. IfRefused result (λ refusal. reading ≡ Err (read.Refused refusal))) }
     ensures refused_always { Meant (texts words.now) (H.state host.old) (λ reading. (refusal : Refusal) →
-        reading ≡ meaning.Refused refusal → (result ≡ Status.Refused refusal) ⊎ (result ≡ Status.Memory)) }
-    ensures untouched { IfRefused result (λ _. CreatesNothing (H.state host.old) (H.state host.new)) }
-    ensures nothing { IfMemory result (CreatesNothing (H.state host.old) (H.state host.new)) }
+        reading ≡ Err (read.Refused refusal) → (H.state host.new).load_faults ≡ (H.state host.old).load_faults →
+        (result ≡ Status.Refused refusal) ⊎ (result ≡ Status.Memory)) }
 
     // A fault comes only where the host failed, and says where.
     ensures fault { Meant (texts words.now) (H.state host.old) (λ reading. IfSinkFault result (λ port tally.
@@ -114,11 +128,12 @@ pub fn melt<R, H: Host, G: Gate>(
     // Whatever the answer, each output has a front of its bytes under its name, or is as before.
     ensures front { Meant (texts words.now) (H.state host.old) (λ reading. (port : Port) → port ≢ Text →
         Leaves (written reading port) ((H.state host.old).port port) ((H.state host.new).port port)) }
+    ensures created { Meant (texts words.now) (H.state host.old) (λ reading. (port : Port) →
+        IsCreatedOnce (written reading port) result ((H.state host.old).creates port) ((H.state host.new).creates port)) }
 
-    // The text has got the answer that was asked for, or the line of the run's end.
+    // The text has got the answer that was asked for, or the line of the run's end; the files were asked for.
     ensures says { Meant (texts words.now) (H.state host.old) (λ reading. Says reading result (H.state host.old) (H.state host.new)) }
-    ensures asked { AsksFor result (loads_on (texts words.now) (H.state host.old).files) (H.state host.old) (H.state host.new) }
-    ensures rest { Meant (texts words.now) (H.state host.old) (λ reading. Keeps reading (H.state host.old) (H.state host.new)) }
+    ensures asked { IfSome (names_on (texts words.now) (H.state host.old).files) (λ names. AsksFor result names (H.state host.old) (H.state host.new)) }
 {
     run(alloc, words, host)
 }

@@ -2,7 +2,8 @@
 
 use super::*;
 use mlt_base::{NumFault, Port};
-use mlt_host::MemHost;
+use mlt_host::disk_in_memory::MemDisk;
+use mlt_host::{DiskHost, MemHost};
 use mlt_tree::{Cause, Refusal};
 use std::alloc::{AllocError, Global};
 use std::test::Fail;
@@ -356,5 +357,46 @@ fn answers_each_failing_call(rt: HostRuntime) -> Result<(), Fail> {
     let answer = melt_text(TextJob::Version, &mut host);
     assert_eq!(rt; answer, Status::SinkFault(Port::Text, tally(0)));
     assert_eq!(rt; host.bytes_of(Port::Text), b"melt".as_slice());
+    Ok(())
+}
+
+#[test]
+fn plays_to_a_file_of_a_disk(rt: HostRuntime) -> Result<(), Fail> {
+    let alloc = rt.alloc();
+    let disk = MemDisk::new(alloc);
+    let mut host = DiskHost::new(disk, Vec::new(alloc), Vec::new(alloc));
+    // The second list of words is refused, and the third is a question: neither opens a file.
+    let rows: [(&str, Status, &[u8], &str); 3] = [
+        (
+            "-profile 1x1@25/1 -consumer raw:v colour:red out=1",
+            Status::Done(tally(2)),
+            b"",
+            "",
+        ),
+        (
+            "-profile 1x1@25/1 -consumer raw:w",
+            refusal(4, Cause::NoProducer),
+            b"",
+            "melt: word 4: nothing to play\n",
+        ),
+        (
+            "-version",
+            Status::Done(tally(0)),
+            b"",
+            "melt: word 4: nothing to play\nmelt 1.0.0\n",
+        ),
+    ];
+    for (line, status, output, errors) in rows {
+        let words = split(alloc, line)?;
+        let answer = melt(&(), alloc, words.as_slice(), &mut host, &Free);
+        assert_eq!(rt; answer, status, "{line}");
+        assert_eq!(rt; host.output().as_slice(), output);
+        assert_eq!(rt; host.errors().as_slice(), errors.as_bytes());
+        let Some(file) = host.file_of(Port::Video) else {
+            return Err(Fail::new("no file was opened"));
+        };
+        assert_eq!(rt; file.name(), "v");
+        assert_eq!(rt; file.written(), [255, 0, 0, 255, 0, 0].as_slice());
+    }
     Ok(())
 }

@@ -52,6 +52,7 @@ fn answer(job: TextJob) -> &'static str
 pub fn melt_text<H: Host>(job: TextJob, host: &mut H) -> Status
     ensures prints { Prints (meaning.job_text (job_of job)) result (H.state host.old) (H.state host.new) }
     ensures never_falls { (H.state host.old).faults Text ≤ (H.state host.new).faults Text }
+    ensures creates { (H.state host.new).creates Text ≡ (H.state host.old).creates Text }
     ensures rest { OnlyPort Text (H.state host.old) (H.state host.new) }
 {
     match host.append(Port::Text, answer(job).as_bytes()) {

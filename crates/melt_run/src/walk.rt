@@ -3,10 +3,11 @@
 ghost use Rattle.std.specs.Prelude.{◌≡◌, ◌≤◌, ◌<◌, ◌+◌, length, All};
 ghost use Rattle.std.specs.Option.{option_map};
 ghost use Rattle.mlt_tree.specs.Ranges.{IsEntry, frames};
-ghost use Rattle.mlt_tree.specs.Tree.{Pictures, mean, mean_in, numbers, Src};
+ghost use Rattle.mlt_tree.specs.Tree.{Src};
 ghost use Rattle.mlt_tree.specs.Units.{IsGraph, IsBodyBelow, IsTrackBelow, AreEntriesBelow, IsEntryBelow, tree_of, body_tree, parts_of, entry_tree};
 ghost use Rattle.mlt_graph.specs.Sealed.{tree};
 ghost use Rattle.melt_run.specs.Found.{entry_with, row_at, shown_of};
+ghost use Rattle.melt_run.specs.Seen.{seen, seen_in};
 
 use mlt_base::{SourceNo, Span};
 use mlt_graph::Sealed;
@@ -41,7 +42,7 @@ fn entry_with(entries: &[Entry], at: u32) -> Option<(&Entry, u32)>
 
 /// The source that is seen at a position of it.
 fn of_source(no: SourceNo, kind: SourceKind, frames: u32, at: u32) -> Option<SourceNo>
-    ensures { option_map (λ s. s.0) result ≡ mean Pictures numbers (Src no.0 kind frames) at }
+    ensures { option_map (λ s. s.0) result ≡ seen (Src no.0 kind frames) at }
 {
     match kind {
         SourceKind::Colour | SourceKind::Still => if at < frames { Some(no) } else { None },
@@ -65,7 +66,7 @@ fn of_entry(units: &[Node], below: usize, entry: &Entry, place: u32) -> Option<S
     requires entry_below { IsEntryBelow below entry.now }
     requires range { IsEntry entry.now }
     requires inside { place < frames entry.now }
-    ensures { option_map (λ s. s.0) result ≡ mean Pictures numbers (entry_tree (tree_of units.now) entry.now) place }
+    ensures { option_map (λ s. s.0) result ≡ seen (entry_tree (tree_of units.now) entry.now) place }
 {
     match entry {
         Entry::Clip { unit, span, .. } => of_unit(units, unit.0 as usize, frame_at(*span, place)),
@@ -79,7 +80,7 @@ fn of_entries(units: &[Node], below: usize, entries: &[Entry], at: u32) -> Optio
     requires graph { IsGraph units.now }
     requires known { below ≤ length units.now }
     requires entries_below { AreEntriesBelow below entries.now }
-    ensures { option_map (λ s. s.0) result ≡ mean_in Pictures numbers (parts_of (tree_of units.now) entries.now) at }
+    ensures { option_map (λ s. s.0) result ≡ seen_in (parts_of (tree_of units.now) entries.now) at }
 {
     match entry_with(entries, at) {
         Some((entry, place)) => of_entry(units, below, entry, place),
@@ -126,7 +127,7 @@ fn of_body(units: &[Node], below: usize, body: &Body, at: u32) -> Option<SourceN
     requires graph { IsGraph units.now }
     requires known { below ≤ length units.now }
     requires body_below { IsBodyBelow below body.now }
-    ensures { option_map (λ s. s.0) result ≡ mean Pictures numbers (body_tree (tree_of units.now) body.now) at }
+    ensures { option_map (λ s. s.0) result ≡ seen (body_tree (tree_of units.now) body.now) at }
 {
     match body {
         Body::Source { no, kind, frames } => of_source(*no, *kind, *frames, at),
@@ -140,7 +141,7 @@ fn of_body(units: &[Node], below: usize, body: &Body, at: u32) -> Option<SourceN
 fn of_unit(units: &[Node], unit: usize, at: u32) -> Option<SourceNo>
     requires graph { IsGraph units.now }
     requires there { unit < length units.now }
-    ensures { option_map (λ s. s.0) result ≡ mean Pictures numbers (tree_of units.now unit) at }
+    ensures { option_map (λ s. s.0) result ≡ seen (tree_of units.now unit) at }
 {
     let node = &units[unit];
     of_body(units, unit, &node.body, at)
@@ -148,7 +149,7 @@ fn of_unit(units: &[Node], unit: usize, at: u32) -> Option<SourceNo>
 
 /// The source whose picture is seen at a position of what is played, if any is.
 pub(crate) fn source_at(sealed: &Sealed, at: u32) -> Option<SourceNo>
-    ensures { option_map (λ s. s.0) result ≡ mean Pictures numbers (tree sealed.now) at }
+    ensures { option_map (λ s. s.0) result ≡ seen (tree sealed.now) at }
 {
     of_unit(sealed.units(), sealed.top().0 as usize, at)
 }

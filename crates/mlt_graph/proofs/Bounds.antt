@@ -11,7 +11,8 @@ use Rattle.mlt_tree.specs.declared.node.Body.TheVariants.{Source, Entries, Tract
 use Rattle.mlt_tree.specs.declared.node.Node.{Node}
 use Rattle.mlt_tree.specs.declared.node.Track.{Track as TrackOf}
 use Rattle.mlt_tree.specs.declared.tree.Plant.{Plant}
-use Rattle.mlt_tree.specs.Tree.{Tree, need, weight, ops, need_in, weight_in, ops_in, need_of_rows, weight_of_rows, ops_of_rows, tracks_in}
+use Rattle.mlt_tree.specs.Sizes.{need, weight, ops, need_in, weight_in, ops_in, need_of_rows, weight_of_rows, ops_of_rows, tracks_in}
+use Rattle.mlt_tree.specs.Tree.{Tree}
 use Rattle.mlt_tree.specs.Units.{parts_of, tracks_of, body_tree, node_tree, tree_of, entries_depth, tracks_depth, body_depth, depth_of, IsEntryBelow, IsTrackBelow, IsBodyBelow, IsGraph}
 use Rattle.mlt_graph.specs.Graph.{HasFewTracks}
 use Rattle.mlt_graph.proofs.Trees.{depth_of-step, every_unit}
@@ -99,7 +100,7 @@ module _ (count : ℕ) (depths : ℕ → ℕ) (low : (k : ℕ) → k < count →
   body_depth-low (Entries entries) below =
       omega (arith, entries_depth-low entries (recursion_from_All (IsEntryBelow count) entries below.below))
   body_depth-low (Tractor tracks plants) below =
-      omega (arith, tracks_depth-low tracks (recursion_from_All (IsTrackBelow count) tracks below.0))
+      omega (arith, tracks_depth-low tracks (recursion_from_All (IsTrackBelow count) tracks below.tracks_below))
 
 -- some unit, for reading where one is there
 some_unit : Node

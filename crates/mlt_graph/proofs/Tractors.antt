@@ -1,59 +1,135 @@
 -- The unit of a level's tracks.
-use Rattle.std.proofs.Common.{◌≡◌, ℕ, ◌<◌, ◌≢◌, ◌^◌, List, [], ◌∷◌, length, map, sym, ap, ◌∙◌, subst, arith}
-use Rattle.std.proofs.lemmas.List.{length-map}
-use Rattle.std.proofs.lemmas.List.Elements.{All-map, All-nil, recursion_from_All}
+use Rattle.std.proofs.Common.{◌≡◌, ℕ, ◌<◌, ◌≢◌, ◌^◌, List, [], ◌∷◌, ◌++◌, length, get_or, map, refl, sym, ap, ◌∙◌, subst, arith}
+use Rattle.std.proofs.lemmas.List.{map-append}
+use Rattle.std.proofs.lemmas.List.Elements.{All-map, All-nil, All-push, All-weaker, All-from_recursion, recursion_from_All}
+use Rattle.std.proofs.lemmas.List.Sums.{fold_push}
 use Rattle.std.specs.List.{All, AllByRecursion}
+use Rattle.mlt_tree.specs.declared.draft.Draft.{Draft}
 use Rattle.mlt_tree.specs.declared.node.Body.TheVariants.{Tractor}
 use Rattle.mlt_tree.specs.declared.node.Node.{Node}
+use Rattle.mlt_tree.specs.declared.node.Track.{Track as TrackOf}
+use Rattle.mlt_tree.specs.declared.tree.Plant.{Plant}
 use Rattle.mlt_tree.specs.Ranges.{IsAttached, IsPlant}
 use Rattle.mlt_tree.specs.Tree.{Tree, len, longest}
-use Rattle.mlt_tree.specs.Units.{Draft, track_of, tractor_of, tracks_of, node_tree, tree_of, body_depth, depth_of, IsEntryBelow, AreEntriesBelow, IsTrackBelow, IsBodyBelow}
+use Rattle.mlt_tree.specs.Units.{Level, drafts_of, track_of, attached_within, plant_within, level_frames, tractor_of, tracks_of, node_tree, tree_of, body_depth, depth_of, IsEntryBelow, AreEntriesBelow, IsTrackBelow, IsOnTracks, IsBodyBelow}
+use Rattle.mlt_tree.specs.Edits.{frames_in}
 use Rattle.mlt_playlist.specs.Playlist.{IsList}
+use Rattle.mlt_graph.specs.Drafts.{IsFinished, IsLevel, plain_track}
 use Rattle.mlt_graph.specs.Graph.{HasLength, IsSized}
-use Rattle.mlt_graph.specs.Sizes.{size_of, tracks_size, tractor_size}
+use Rattle.mlt_graph.specs.Sizes.{nothing, over_size, entries_size, drafts_size, size_of, tractor_size}
 use Rattle.mlt_graph.specs.declared.size.Size.{Size}
 use Rattle.mlt_graph.proofs.SizeLemmas.{len_in-frames, tractor_size-is}
 
+-- ---- what a level's tracks are
+
+-- a track with no filter is what it will be
+track-is : (draft : Draft) → draft.filters ≡ [] → plain_track draft ≡ track_of draft
+track-is draft none =
+    ap (λ fs. record { entries = draft.entries; filters = map (attached_within (frames_in draft.entries)) fs; hide = draft.hide }) (sym none)
+
+attached_none : (draft : Draft) → draft.filters ≡ [] → All IsAttached (track_of draft).filters
+attached_none draft none = subst (λ (track : TrackOf). All IsAttached track.filters) (track-is draft none) (All-nil IsAttached)
+
+tracks-are_of : (drafts : List Draft) → AllByRecursion (λ (draft : Draft). draft.filters ≡ []) drafts → map plain_track drafts ≡ map track_of drafts
+tracks-are_of [] none = refl
+tracks-are_of (draft ∷ drafts) none =
+    ap (λ track. track ∷ map plain_track drafts) (track-is draft none.0) ∙ ap (λ tracks. track_of draft ∷ tracks) (tracks-are_of drafts none.1)
+
+-- what holds of all tracks holds of the closed ones, and of the last
+parted : (P : Draft → Type 0) (closed : List Draft) (last : Draft) → AllByRecursion P (closed ++ last ∷ []) → AllByRecursion P closed × P last
+parted P [] last all = (tt, all.0)
+parted P (draft ∷ closed) last all = let rest = parted P closed last all.1 in ((all.0, rest.0), rest.1)
+
+pub all-closed : (P : Draft → Type 0) (level : Level) → All P (drafts_of level) → All P level.closed
+all-closed P level all =
+    All-from_recursion P level.closed (parted P level.closed level.current (recursion_from_All P (drafts_of level) all)).0
+
+pub all-last : (P : Draft → Type 0) (level : Level) → All P (drafts_of level) → P level.current
+all-last P level all = (parted P level.closed level.current (recursion_from_All P (drafts_of level) all)).1
+
+no_filters : (level : Level) → IsLevel level → All (λ draft. draft.filters ≡ []) (drafts_of level)
+no_filters level is =
+    All-push (λ draft. draft.filters ≡ []) level.closed level.current (All-weaker IsFinished (λ draft. draft.filters ≡ []) (λ draft finished. finished.filters) level.closed is.closed) is.filters
+
+-- the tracks as they are made
+pub tracks-are : (level : Level) → IsLevel level → map plain_track level.closed ++ plain_track level.current ∷ [] ≡ map track_of (drafts_of level)
+tracks-are level is =
+    sym (map-append plain_track level.closed (level.current ∷ []))
+    ∙ tracks-are_of (drafts_of level) (recursion_from_All (λ draft. draft.filters ≡ []) (drafts_of level) (no_filters level is))
+
+-- the last one too has no filter
+pub all_finished : (level : Level) → IsLevel level → IsList level.current.entries → All IsFinished (drafts_of level)
+all_finished level is list =
+    All-push IsFinished level.closed level.current is.closed (record { list = list; filters = is.filters })
+
+pub lists-are : (level : Level) → IsLevel level → IsList level.current.entries → All (λ draft. IsList draft.entries) (drafts_of level)
+lists-are level is list =
+    All-weaker IsFinished (λ draft. IsList draft.entries) (λ draft finished. finished.list) (drafts_of level) (all_finished level is list)
+
+-- nothing is planted
+plants-are : (level : Level) → IsLevel level → [] ≡ map (plant_within (level_frames level)) level.plants
+plants-are level is = ap (map (plant_within (level_frames level))) (sym is.plants)
+
+-- the tractor as it is made
+pub body-is : (level : Level) (tracks : List TrackOf) (plants : List Plant) → IsLevel level → tracks ≡ map plain_track level.closed ++ plain_track level.current ∷ [] → plants ≡ []
+    → Tractor tracks plants ≡ (tractor_of level).body
+body-is level tracks plants is made none =
+    ap (λ ts. Tractor ts plants) (made ∙ tracks-are level is) ∙ ap (Tractor (map track_of (drafts_of level))) (none ∙ plants-are level is)
+
+-- the size of all is that of the closed ones, with the last one over them
+pub drafts_size-last : (table : List Size) (level : Level)
+    → over_size (drafts_size table level.closed) (entries_size table level.current.entries) ≡ drafts_size table (drafts_of level)
+drafts_size-last table level =
+    sym (fold_push (λ size draft. over_size size (entries_size table draft.entries)) nothing level.closed level.current)
+
+-- ---- their tractor
+
 -- no track is longer than a playlist can be
-longest-short : (units : ℕ → Tree) (level : List Draft) → AllByRecursion (λ (draft : Draft). IsList draft.entries) level
-    → longest (tracks_of units (map track_of level)) < 2 ^ 31
+longest-short : (units : ℕ → Tree) (drafts : List Draft) → AllByRecursion (λ (draft : Draft). IsList draft.entries) drafts
+    → longest (tracks_of units (map track_of drafts)) < 2 ^ 31
 longest-short units [] lists = omega arith
-longest-short units (draft ∷ level) lists = omega (arith, len_in-frames units draft.entries, lists.0.short, longest-short units level lists.1)
+longest-short units (draft ∷ drafts) lists = omega (arith, len_in-frames units draft.entries, lists.0.short, longest-short units drafts lists.1)
 
 -- what is known of a level's tractor, from the size of its tracks
-pub record IsTractor (us : List Node) (level : List Draft) (tracks : Size) : Type 0 where
-  pub below : IsBodyBelow (length us) (Tractor (map track_of level) [])
+pub record IsTractor (us : List Node) (level : Level) (tracks : Size) : Type 0 where
+  pub below : IsBodyBelow (length us) (tractor_of level).body
   pub frames : tracks.length ≢ 0 → HasLength (node_tree (tree_of us) (tractor_of level))
-  pub size : tractor_size (length level) tracks ≡ size_of (node_tree (tree_of us) (tractor_of level)) (body_depth (depth_of us) (Tractor (map track_of level) []))
+  pub size : tractor_size (length (drafts_of level)) tracks ≡ size_of (node_tree (tree_of us) (tractor_of level)) (body_depth (depth_of us) (tractor_of level).body)
   pub length : tracks.length ≡ len (node_tree (tree_of us) (tractor_of level))
 
-module _ (us : List Node) (sizes : List Size) (level : List Draft) (sized : IsSized us sizes)
-    (below : All (λ draft. All (IsEntryBelow (length us)) draft.entries) level) (lists : All (λ draft. IsList draft.entries) level) where
+module _ (us : List Node) (sizes : List Size) (level : Level) (sized : IsSized us sizes) (is : IsLevel level)
+    (below : All (λ draft. All (IsEntryBelow (length us)) draft.entries) (drafts_of level)) (lists : All (λ draft. IsList draft.entries) (drafts_of level)) where
   -- the entries are of the graph's units, and in their ranges
-  ranged : All (λ draft. AreEntriesBelow (length us) draft.entries) level
+  ranged : All (λ draft. AreEntriesBelow (length us) draft.entries) (drafts_of level)
   ranged = λ k d within. record { below = below k d within; ranges = (lists k d within).entries }
 
-  pub ranged-in : All (λ draft. AreEntriesBelow (length sizes) draft.entries) level
-  ranged-in = subst (λ (n : ℕ). All (λ draft. AreEntriesBelow n draft.entries) level) (sym sized.long) ranged
+  pub ranged-in : All (λ draft. AreEntriesBelow (length sizes) draft.entries) (drafts_of level)
+  ranged-in = subst (λ (n : ℕ). All (λ draft. AreEntriesBelow n draft.entries) (drafts_of level)) (sym sized.long) ranged
 
-  tractor-below : IsBodyBelow (length us) (Tractor (map track_of level) [])
-  tractor-below = (All-map (IsTrackBelow (length us)) track_of level (λ k d within. record { entries = ranged k d within; filters = All-nil IsAttached }), All-nil IsPlant)
+  tractor-below : IsBodyBelow (length us) (tractor_of level).body
+  tractor-below = record {
+    tracks_below = All-map (IsTrackBelow (length us)) track_of (drafts_of level) (λ k d within. record {
+      entries = ranged k d within;
+      filters = attached_none (get_or (drafts_of level) k d) (no_filters level is k d within);
+    });
+    ranges = subst (All IsPlant) (plants-are level is) (All-nil IsPlant);
+    on_tracks = subst (All (IsOnTracks (length (map track_of (drafts_of level))))) (plants-are level is) (All-nil (IsOnTracks (length (map track_of (drafts_of level)))));
+  }
 
-  tractor-size : tractor_size (length level) (tracks_size sizes (map track_of level))
-      ≡ size_of (node_tree (tree_of us) (tractor_of level)) (body_depth (depth_of us) (Tractor (map track_of level) []))
+  tractor-size : tractor_size (length (drafts_of level)) (drafts_size sizes (drafts_of level))
+      ≡ size_of (node_tree (tree_of us) (tractor_of level)) (body_depth (depth_of us) (tractor_of level).body)
   tractor-size =
-      ap (λ n. tractor_size n (tracks_size sizes (map track_of level))) (sym (length-map level track_of))
-      ∙ tractor_size-is sizes (tree_of us) (depth_of us) sized.told (map track_of level)
-      (All-map (λ track. All (IsEntryBelow (length sizes)) track.entries) track_of level (λ k d within. (ranged-in k d within).below))
+      tractor_size-is sizes (tree_of us) (depth_of us) sized.told (drafts_of level) (map (plant_within (level_frames level)) level.plants)
+      (λ k d within. (ranged-in k d within).below)
 
   tractor-short : len (node_tree (tree_of us) (tractor_of level)) < 2 ^ 31
-  tractor-short = longest-short (tree_of us) level (recursion_from_All (λ draft. IsList draft.entries) level lists)
+  tractor-short = longest-short (tree_of us) (drafts_of level) (recursion_from_All (λ draft. IsList draft.entries) (drafts_of level) lists)
 
   -- the length in the size of the tracks is the tractor's
-  tractor-length : (tracks_size sizes (map track_of level)).length ≡ len (node_tree (tree_of us) (tractor_of level))
+  tractor-length : (drafts_size sizes (drafts_of level)).length ≡ len (node_tree (tree_of us) (tractor_of level))
   tractor-length = ap (λ (s : Size). s.length) tractor-size ∙ omega (arith, tractor-short)
 
-  pub tractor-is : IsTractor us level (tracks_size sizes (map track_of level))
+  pub tractor-is : IsTractor us level (drafts_size sizes (drafts_of level))
   tractor-is = record {
     below = tractor-below;
     length = tractor-length;

@@ -120,7 +120,7 @@ module _ (count : ℕ) (f g : ℕ → Tree) (agree : Agree count f g) where
   body_tree-agree (Source source kind frames) below = refl
   body_tree-agree (Entries entries) below = ap Seq (parts_of-agree entries (recursion_from_All (IsEntryBelow count) entries below.below))
   body_tree-agree (Tractor tracks plants) below =
-      ap (λ ts. Rows ts plants) (tracks_of-agree tracks (recursion_from_All (IsTrackBelow count) tracks below.0))
+      ap (λ ts. Rows ts plants) (tracks_of-agree tracks (recursion_from_All (IsTrackBelow count) tracks below.tracks_below))
 
   -- a unit's tree depends on the trees of lower units alone
   pub node_tree-agree : (u : Node) → IsBodyBelow count u.body → node_tree f u ≡ node_tree g u
@@ -143,7 +143,7 @@ module _ (count : ℕ) (f g : ℕ → ℕ) (agree : Agree count f g) where
   body_depth-agree (Entries entries) below =
       ap (λ d. d + 1) (entries_depth-agree entries (recursion_from_All (IsEntryBelow count) entries below.below))
   body_depth-agree (Tractor tracks plants) below =
-      ap (λ d. d + 1) (tracks_depth-agree tracks (recursion_from_All (IsTrackBelow count) tracks below.0))
+      ap (λ d. d + 1) (tracks_depth-agree tracks (recursion_from_All (IsTrackBelow count) tracks below.tracks_below))
 
 -- ---- the tree of a unit
 

@@ -1,11 +1,8 @@
 -- The units of a graph, and what holds of them and of the table of their sizes.
-use Rattle.std.specs.Prelude.{◌≡◌, ◌≤◌, ◌<◌, ◌^◌, ℕ, List, [], length, All}
-use Rattle.mlt_base.specs.declared.profile.SourceNo.{SourceNo}
-use Rattle.mlt_tree.specs.declared.entry.Entry.{Entry}
+use Rattle.std.specs.Prelude.{◌≡◌, ◌≤◌, ◌<◌, ◌^◌, ℕ, List, length, All}
 use Rattle.mlt_tree.specs.declared.node.Body.{Body}
 use Rattle.mlt_tree.specs.declared.node.Body.TheVariants.{Source, Entries, Tractor}
 use Rattle.mlt_tree.specs.declared.node.Node.{Node}
-use Rattle.mlt_tree.specs.declared.tree.SourceKind.{SourceKind}
 use Rattle.mlt_tree.specs.Tree.{Tree, len}
 use Rattle.mlt_tree.specs.Units.{tree_of, depth_of, IsGraph}
 use Rattle.mlt_graph.specs.declared.size.Size.{Size}

@@ -6,3 +6,4 @@ pub mod Seal
 pub mod Sealed
 pub mod Show
 pub mod Sizes
+pub mod Weights

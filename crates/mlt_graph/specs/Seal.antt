@@ -1,7 +1,7 @@
 -- Sealing: refused where the unit is nested too deep, and then where it is too heavy.
 use Rattle.std.specs.Prelude.{ℕ, nat_lt, if◌then◌else◌, List, Result, Ok, Err}
 use Rattle.mlt_tree.specs.declared.node.Node.{Node}
-use Rattle.mlt_tree.specs.Tree.{weight}
+use Rattle.mlt_tree.specs.Sizes.{weight}
 use Rattle.mlt_tree.specs.Units.{tree_of, depth_of}
 use Rattle.mlt_graph.specs.declared.fault.GraphFault.{GraphFault}
 use Rattle.mlt_graph.specs.declared.fault.GraphFault.TheVariants.{TooDeep, TooMany}

@@ -1,7 +1,8 @@
 -- What is played: units, and which of them.
 use Rattle.std.specs.Prelude.{◌≡◌, ◌≤◌, ◌<◌, ◌^◌, ℕ, List, length}
 use Rattle.mlt_tree.specs.declared.node.Node.{Node}
-use Rattle.mlt_tree.specs.Tree.{Tree, len, need, weight, ops}
+use Rattle.mlt_tree.specs.Sizes.{need, weight, ops}
+use Rattle.mlt_tree.specs.Tree.{Tree, len}
 use Rattle.mlt_tree.specs.Units.{tree_of, depth_of, IsGraph}
 
 pub record Shown : Type 0 where

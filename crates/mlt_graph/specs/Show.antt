@@ -5,6 +5,8 @@ use Rattle.mlt_base.specs.declared.profile.Rate.{Rate}
 use Rattle.mlt_tree.specs.Show as meaning
 use Rattle.mlt_base.specs.ProfileView.{measures_of}
 use Rattle.mlt_tree.specs.Composition.{Frames, frames_by}
+use Rattle.mlt_graph.specs.declared.show.Format.{Format}
+use Rattle.mlt_graph.specs.declared.show.Format.TheVariants.{S16, S32}
 use Rattle.mlt_graph.specs.declared.show.Output.{Output}
 use Rattle.mlt_graph.specs.declared.show.Pix.{Pix}
 use Rattle.mlt_graph.specs.declared.show.Pix.TheVariants.{Rgb, Rgba}
@@ -21,9 +23,14 @@ abbrev pub pix_of : Pix → meaning.Pix
 pix_of Rgb = meaning.Rgb
 pix_of Rgba = meaning.Rgba
 
+abbrev pub format_of : Format → meaning.Format
+format_of S16 = meaning.S16
+format_of S32 = meaning.S32
+
 abbrev pub output_view : Output → meaning.Settings
 output_view output = record {
   video = output.video;
+  audio = output.audio;
   pix = pix_of output.pix;
   first = output.first.0;
   last = output.last.0;
@@ -31,6 +38,8 @@ output_view output = record {
   buffer = output.buffer;
   slices = output.slices;
   cache = output.cache;
+  channels = output.channels;
+  format = format_of output.format;
 }
 
 -- a show with its sources

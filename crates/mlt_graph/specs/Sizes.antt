@@ -1,9 +1,11 @@
--- The size of a tree, as a table of units keeps it, and how the sizes of its parts make it up.
-use Rattle.std.specs.Prelude.{ℕ, ◌≡◌, ◌+◌, ◌-◌, ◌^◌, ◌<◌, min, max, nat_lt, if◌then◌else◌, List, length, fold, slice_index_or}
+-- The size of a tree, as a table of units keeps it, and how the sizes of its parts make it up. Filters and merges
+-- do not change it.
+use Rattle.std.specs.Prelude.{ℕ, ◌≡◌, ◌+◌, ◌-◌, ◌^◌, ◌<◌, min, max, List, length, fold, slice_index_or}
+use Rattle.mlt_tree.specs.declared.draft.Draft.{Draft}
 use Rattle.mlt_tree.specs.declared.entry.Entry.{Entry}
 use Rattle.mlt_tree.specs.declared.entry.Entry.TheVariants.{Clip, Gap}
-use Rattle.mlt_tree.specs.declared.node.Track.{Track}
-use Rattle.mlt_tree.specs.Tree.{Tree, len, need, weight, ops}
+use Rattle.mlt_tree.specs.Sizes.{need}
+use Rattle.mlt_tree.specs.Tree.{Tree, len}
 use Rattle.mlt_graph.specs.declared.size.Size.{Size}
 
 -- the least of a number and 2^32 - 1
@@ -12,63 +14,38 @@ kept n = min n (2 ^ 32 - 1)
 
 -- the size of a tree of this depth
 abbrev pub size_of : Tree → ℕ → Size
-size_of tree depth = record {
-  length = kept (len tree);
-  need = kept (need tree);
-  weight = kept (weight tree);
-  ops = kept (ops tree);
-  depth = kept depth;
-}
+size_of tree depth = record { length = kept (len tree); need = kept (need tree); depth = kept depth }
 
 -- no frame, and nothing to work out
 abbrev pub nothing : Size
-nothing = record { length = 0; need = 0; weight = 0; ops = 0; depth = 0 }
+nothing = record { length = 0; need = 0; depth = 0 }
 
 -- frames that are worked out at once
 abbrev pub plain : ℕ → Size
-plain frames = record { length = frames; need = 1; weight = 1; ops = 1; depth = 0 }
-
--- with so many filters on it
-abbrev pub filtered : ℕ → Size → Size
-filtered filters size = record size { weight = kept (size.weight + filters); ops = kept (size.ops + filters) }
+plain frames = record { length = frames; need = 1; depth = 0 }
 
 -- so many frames of it
 abbrev pub part : ℕ → Size → Size
 part frames size = record size { length = kept frames }
 
 abbrev pub entry_size : List Size → Entry → Size
-entry_size table (Clip unit span filters) =
-    part (span.last.0 + 1 - span.first.0) (filtered (length filters) (slice_index_or table unit.0 nothing))
+entry_size table (Clip unit span filters) = part (span.last.0 + 1 - span.first.0) (slice_index_or table unit.0 nothing)
 entry_size table (Gap frames) = plain (kept frames)
 
 -- one after the other
 abbrev pub then_size : Size → Size → Size
-then_size a b = record {
-  length = kept (a.length + b.length);
-  need = max a.need b.need;
-  weight = max a.weight b.weight;
-  ops = max a.ops b.ops;
-  depth = max a.depth b.depth;
-}
+then_size a b = record { length = kept (a.length + b.length); need = max a.need b.need; depth = max a.depth b.depth }
 
 abbrev pub entries_size : List Size → List Entry → Size
 entries_size table es = fold (λ size e. then_size size (entry_size table e)) (plain 0) es
 
 -- one over the other
 abbrev pub over_size : Size → Size → Size
-over_size a b = record {
-  length = max a.length b.length;
-  need = max a.need b.need;
-  weight = kept (a.weight + b.weight);
-  ops = kept (a.ops + b.ops);
-  depth = max a.depth b.depth;
-}
+over_size a b = record { length = max a.length b.length; need = max a.need b.need; depth = max a.depth b.depth }
 
-abbrev pub track_size : List Size → Track → Size
-track_size table track = filtered (length track.filters) (entries_size table track.entries)
-
-abbrev pub tracks_size : List Size → List Track → Size
-tracks_size table tracks = fold (λ size track. over_size size (track_size table track)) nothing tracks
+-- tracks over each other
+abbrev pub drafts_size : List Size → List Draft → Size
+drafts_size table drafts = fold (λ size draft. over_size size (entries_size table draft.entries)) nothing drafts
 
 -- a unit of these
 abbrev pub list_size : Size → Size
@@ -79,8 +56,6 @@ abbrev pub tractor_size : ℕ → Size → Size
 tractor_size count tracks = record {
   length = tracks.length;
   need = kept (tracks.need + count);
-  weight = tracks.weight;
-  ops = kept (tracks.ops + (if nat_lt 1 count then 1 else 0));
   depth = kept (tracks.depth + 1);
 }
 

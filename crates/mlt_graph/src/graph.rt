@@ -3,7 +3,7 @@
 ghost use Rattle.std.specs.Prelude.{◌≡◌, ◌≤◌, ◌<◌, ◌^◌, ◌⊎◌, ◌↔◌, [], ◌∷◌, ◌++◌, length, All, Err, IfOk, IfErr, OnOk, OnErr};
 ghost use Rattle.mlt_tree.specs.Edits.{frames_in};
 ghost use Rattle.mlt_tree.specs.Tree.{len};
-ghost use Rattle.mlt_tree.specs.Units.{source_unit, list_unit, node_tree, tractor_of, tree_of, body_depth, depth_of, IsEntryBelow, AreEntriesBelow, IsBodyBelow};
+ghost use Rattle.mlt_tree.specs.Units.{source_unit, list_unit, node_tree, drafts_of, tractor_of, tree_of, body_depth, depth_of, IsEntryBelow, AreEntriesBelow, IsBodyBelow};
 ghost use Rattle.mlt_graph.specs.declared.fault.GraphFault.TheVariants.{NoProducer, Memory};
 ghost use Rattle.mlt_graph.specs.Graph.{HasLength, HasFewTracks};
 ghost use Rattle.mlt_graph.specs.Seal.{seal};
@@ -13,9 +13,10 @@ use crate::fault::GraphFault;
 use crate::level::Level;
 use crate::sealed::Sealed;
 use crate::size::Size;
+use crate::weight::{Weight, weight_of};
 use mlt_base::{SourceNo, UnitId};
 use mlt_playlist::EntryList;
-use mlt_tree::{Body, FilterList, ItemList, Node, SourceKind};
+use mlt_tree::{Body, FilterList, Node, SourceKind};
 use std::alloc::{AllocError, Global};
 use std::marker::Model;
 
@@ -34,10 +35,12 @@ pub struct Graph {
     nodes: Vec<Node>,
     // the size of each unit, so that none is walked again
     sizes: Vec<Size>,
+    // the weight of each unit, once they are sealed
+    weights: Vec<Weight>,
 }
 
 impl Model for Graph {
-    ghost use Rattle.std.specs.Prelude.{List};
+    ghost use Rattle.std.specs.Prelude.{◌≡◌, List, length};
     ghost use Rattle.mlt_tree.specs.declared.node.Node.{Node};
     ghost use Rattle.mlt_graph.specs.Graph.{IsSized};
 
@@ -45,7 +48,7 @@ impl Model for Graph {
 
     ghost view = { λ g. g.nodes.items };
 
-    ghost invariant = { λ g. IsSized g.nodes.items g.sizes.items };
+    ghost invariant = { λ g. IsSized g.nodes.items g.sizes.items × (length g.weights.items ≡ length g.nodes.items) };
 }
 
 impl Graph {
@@ -56,6 +59,7 @@ impl Graph {
         Graph {
             nodes: Vec::new(alloc),
             sizes: Vec::new(alloc),
+            weights: Vec::new(alloc),
         }
     }
 
@@ -110,7 +114,7 @@ impl Graph {
     ///
     /// `NoProducer` comes where no track has a frame, else `Memory` may.
     pub fn add_tractor(&mut self, level: Level) -> Result<UnitId, GraphFault>
-        requires { All (λ track. All (IsEntryBelow (length self.old)) track.entries) level }
+        requires { All (λ draft. All (IsEntryBelow (length self.old)) draft.entries) (drafts_of level) }
         ensures ok { OnOk result (self.new ≡ self.old ++ tractor_of level ∷ []) }
         ensures id { IfOk result (λ id. id.0 ≡ length self.old) }
         ensures err { OnErr result (self.new ≡ self.old) }
@@ -123,11 +127,10 @@ impl Graph {
             return Err(GraphFault::NoProducer);
         }
         let alloc = *self.nodes.allocator();
-        let Ok(tracks) = level.into_tracks(alloc) else {
+        let Ok(body) = level.into_body(alloc) else {
             return Err(GraphFault::Memory);
         };
-        let plants = ItemList::new(alloc);
-        match self.add(Body::Tractor { tracks, plants }, size.tractor(count)) {
+        match self.add(body, size.tractor(count)) {
             Ok(id) => Ok(id),
             Err(_) => Err(GraphFault::Memory),
         }
@@ -141,15 +144,20 @@ impl Graph {
         requires { top.0 < length self }
         ensures { result ≡ seal self top.0 }
     {
-        let Graph { nodes, sizes } = self;
+        let Graph {
+            nodes,
+            sizes,
+            weights,
+        } = self;
         let size = sizes[top.0 as usize];
         if size.depth > MOST_DEPTH {
             return Err(GraphFault::TooDeep { depth: size.depth });
         }
-        if size.weight > MOST_WEIGHT {
+        let weight = weight_of(&nodes, weights, top.0 as usize);
+        if weight.weight > MOST_WEIGHT {
             return Err(GraphFault::TooMany { limit: MOST_WEIGHT });
         }
-        Ok(Sealed::new(nodes, top, size.length, size.need, size.ops))
+        Ok(Sealed::new(nodes, top, size.length, size.need, weight.ops))
     }
 
     // Puts a unit with no filter behind the others.
@@ -167,10 +175,12 @@ impl Graph {
             return Err(AllocError);
         }
         let filters = FilterList::new(*self.nodes.allocator());
-        // both grow, or neither does
+        // all of them grow, or none does
         self.sizes.reserve(1)?;
+        self.weights.reserve(1)?;
         self.nodes.push(Node { body, filters })?;
         self.sizes.push(size)?;
+        self.weights.push(Weight::none())?;
         Ok(id)
     }
 }

@@ -1,107 +1,126 @@
 //! The tracks of a tractor that is not made yet.
 
-ghost use Rattle.std.specs.Prelude.{◌≡◌, ◌≤◌, false, [], ◌∷◌, length, map, All, IfOk};
-ghost use Rattle.mlt_playlist.specs.Playlist.{IsList};
+ghost use Rattle.std.specs.Prelude.{◌≡◌, ◌≤◌, [], length, All, IfOk};
 ghost use Rattle.std.specs.Borrow.{sem};
-ghost use Rattle.mlt_graph.specs.Drafts.{last_entries};
+ghost use Rattle.mlt_playlist.specs.Playlist.{IsList};
 ghost use Rattle.mlt_graph.specs.LevelLends.{LendsLast};
-ghost use Rattle.mlt_graph.specs.Sizes.{tracks_size};
-ghost use Rattle.mlt_tree.specs.Units.{track_of, AreEntriesBelow};
+ghost use Rattle.mlt_graph.specs.Sizes.{drafts_size};
+ghost use Rattle.mlt_tree.specs.Units.{empty_level, drafts_of, tractor_of, AreEntriesBelow};
 
 use crate::size::Size;
 use mlt_playlist::Playlist;
-use mlt_tree::{FilterList, Hide, ItemList, Track};
+use mlt_tree::{Body, Draft, Entry, FilterList, Hide, ItemList, Pending, PendingPlant, Track};
 use std::alloc::{AllocError, Global};
 use std::marker::Model;
 
-/// The tracks of a tractor that is not made yet: at least one and at most 256. Contracts see a level as
-/// the list of its tracks, each of them its entries and for which medium it gives nothing.
+/// The tracks of a tractor that is not made yet: at least one and at most 256, of which entries are added
+/// to the last. Contracts see a level as `specs/Units` of `mlt_tree` does, by the same fields.
 #[derive(Drop)]
 pub struct Level {
     // the tracks below the last one, to which nothing is added any more
-    below: Vec<Track>,
-    last: Playlist,
+    closed: Vec<Draft>,
+    // the last one, by its entries, filters and hide
+    list: Playlist,
+    filters: ItemList<Pending>,
     hide: Hide,
+    plants: ItemList<PendingPlant>,
 }
 
 impl Model for Level {
-    ghost use Rattle.std.specs.Prelude.{List};
-    ghost use Rattle.mlt_tree.specs.Units.{Draft};
-    ghost use Rattle.mlt_graph.specs.Drafts.{drafts_of, AreFinished};
+    ghost use Rattle.mlt_tree.specs.Units.{Level};
+    ghost use Rattle.mlt_graph.specs.Drafts.{IsLevel};
 
-    ghost Value = { List Draft };
+    ghost Value = { Level };
 
-    ghost view = { λ l. drafts_of l.below.items l.last l.hide };
+    ghost view = { λ l. record { closed = l.closed.items; current = record { entries = l.list; filters = l.filters; hide = l.hide }; plants = l.plants } };
 
-    ghost invariant = { λ l. AreFinished l.below.items };
+    ghost invariant = { λ l. IsLevel (record { closed = l.closed.items; current = record { entries = l.list; filters = l.filters; hide = l.hide }; plants = l.plants }) };
 }
 
 impl Level {
     /// One track with no entry, which gives both media. Its place among the tracks of the tractor is
     /// taken at once.
     pub fn new(alloc: Global) -> Result<Level, AllocError>
-        ensures { IfOk result (λ level. level ≡ record { entries = []; hide = record { video = false; audio = false } } ∷ []) }
+        ensures { IfOk result (λ level. level ≡ empty_level) }
     {
         Ok(Level {
-            below: Vec::with_capacity(alloc, 1)?,
-            last: Playlist::new(alloc),
+            closed: Vec::with_capacity(alloc, 1)?,
+            list: Playlist::new(alloc),
+            filters: ItemList::new(alloc),
             hide: Hide {
                 video: false,
                 audio: false,
             },
+            plants: ItemList::new(alloc),
         })
     }
 
     /// How many tracks there are.
     pub fn tracks(&self) -> u32
-        ensures value { result ≡ length self.now }
+        ensures value { result ≡ length (drafts_of self.now) }
         ensures some { 1 ≤ result }
         ensures few { result ≤ 256 }
-        ensures lists { All (λ track. IsList track.entries) self.now }
+        ensures lists { All (λ draft. IsList draft.entries) (drafts_of self.now) }
     {
         // its list is a playlist's, as those of the others are
-        let _ = self.last.count();
-        self.below.len() as u32 + 1
+        let _ = self.list.count();
+        self.closed.len() as u32 + 1
     }
 
     /// The size of the tracks, whose units are in the table.
     pub(crate) fn size(&self, table: &[Size]) -> Size
-        requires { All (λ track. AreEntriesBelow (length table.now) track.entries) self.now }
-        ensures { result ≡ tracks_size table.now (map track_of self.now) }
+        requires { All (λ draft. AreEntriesBelow (length table.now) draft.entries) (drafts_of self.now) }
+        ensures { result ≡ drafts_size table.now (drafts_of self.now) }
     {
-        let below = Size::of_tracks(table, self.below.as_slice());
-        below.under(Size::of_entries(table, self.last.as_slice()).filtered(0))
+        let closed = Size::of_drafts(table, self.closed.as_slice());
+        closed.under(Size::of_entries(table, self.list.as_slice()))
     }
 
-    /// The tracks of the tractor.
-    pub(crate) fn into_tracks(self, alloc: Global) -> Result<ItemList<Track>, AllocError>
-        ensures { IfOk result (λ tracks. tracks ≡ map track_of self) }
+    /// The tractor.
+    pub(crate) fn into_body(self, alloc: Global) -> Result<Body, AllocError>
+        ensures { IfOk result (λ body. body ≡ (tractor_of self).body) }
     {
         let Level {
-            below: mut tracks,
-            last,
+            closed,
+            list,
+            filters: _,
             hide,
+            plants: _,
         } = self;
-        tracks.push(Track {
-            entries: last.into_entries(),
-            filters: FilterList::new(alloc),
-            hide,
-        })?;
-        Ok(ItemList::from_vec(tracks))
+        let mut tracks = Vec::with_capacity(alloc, closed.len() + 1)?;
+        for draft in closed {
+            tracks.push(track(alloc, draft.entries, draft.hide))?;
+        }
+        tracks.push(track(alloc, list.into_entries(), hide))?;
+        Ok(Body::Tractor {
+            tracks: ItemList::from_vec(tracks),
+            plants: ItemList::new(alloc),
+        })
     }
 
     /// The entries of the last track.
     pub fn last_list(&self) -> &Playlist
-        ensures { result.now ≡ last_entries self.now }
+        ensures { result.now ≡ self.now.current.entries }
     {
-        &self.last
+        &self.list
     }
 
     /// The entries of the last track, to be changed.
     pub fn last(&mut self) -> &mut Playlist
         ensures* lends { sem 𝓛 (LendsLast self.entry result) }
-        ensures list { result.now ≡ last_entries self.old }
+        ensures list { result.now ≡ self.old.current.entries }
     {
-        &mut self.last
+        &mut self.list
+    }
+}
+
+/// A track with no filter.
+fn track(alloc: Global, entries: ItemList<Entry>, hide: Hide) -> Track
+    ensures { result ≡ record { entries = entries; filters = []; hide = hide } }
+{
+    Track {
+        entries,
+        filters: FilterList::new(alloc),
+        hide,
     }
 }

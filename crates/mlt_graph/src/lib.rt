@@ -15,6 +15,7 @@ pub mod level;
 pub mod sealed;
 pub mod show;
 mod size;
+mod weight;
 
 pub use fault::GraphFault;
 pub use graph::Graph;

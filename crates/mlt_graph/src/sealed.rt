@@ -1,7 +1,8 @@
 //! What is played in the end.
 
 ghost use Rattle.std.specs.Prelude.{◌≡◌, ◌≤◌, ◌<◌, ◌^◌};
-ghost use Rattle.mlt_tree.specs.Tree.{len, need, ops};
+ghost use Rattle.mlt_tree.specs.Sizes.{need, ops};
+ghost use Rattle.mlt_tree.specs.Tree.{len};
 ghost use Rattle.mlt_graph.specs.Sealed.{tree, IsSealed, IsKept};
 
 use mlt_base::UnitId;

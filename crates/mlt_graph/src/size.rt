@@ -1,21 +1,18 @@
-//! How long units are, and what it takes to work them out.
+//! How long units are, how many buffers they take, and how deep they are nested.
 
 ghost use Rattle.std.specs.Prelude.{◌≡◌, length, All};
 ghost use Rattle.mlt_tree.specs.Ranges.{IsEntry};
 ghost use Rattle.mlt_tree.specs.Units.{AreEntriesBelow, IsEntryBelow};
-ghost use Rattle.mlt_graph.specs.Sizes.{kept, nothing, plain, filtered, part, entry_size, then_size, entries_size, over_size, track_size, tracks_size, list_size, tractor_size};
+ghost use Rattle.mlt_graph.specs.Sizes.{nothing, plain, part, entry_size, then_size, entries_size, over_size, drafts_size, list_size, tractor_size};
 
-use mlt_tree::{Entry, Track};
+use mlt_tree::{Draft, Entry};
 
-/// What is known of a unit, each number held to 2^32 - 1: its length in frames, the picture buffers that
-/// it takes to work a frame out, how much there is in it, the operations that a frame takes, and how deep
-/// the unit is nested.
+/// What is known of a unit from when it is added, each number held to 2^32 - 1: its length in frames, the
+/// picture buffers that it takes to work a frame out, and how deep it is nested. Filters don't change these.
 #[derive(Clone, Copy, Debug)]
 pub(crate) struct Size {
     pub length: u32,
     pub need: u32,
-    pub weight: u32,
-    pub ops: u32,
     pub depth: u32,
 }
 
@@ -27,8 +24,6 @@ impl Size {
         Size {
             length: 0,
             need: 0,
-            weight: 0,
-            ops: 0,
             depth: 0,
         }
     }
@@ -40,8 +35,6 @@ impl Size {
         Size {
             length,
             need: 1,
-            weight: 1,
-            ops: 1,
             depth: 0,
         }
     }
@@ -65,8 +58,6 @@ impl Size {
         Size {
             length: self.length.saturating_add(next.length),
             need: self.need.max(next.need),
-            weight: self.weight.max(next.weight),
-            ops: self.ops.max(next.ops),
             depth: self.depth.max(next.depth),
         }
     }
@@ -78,29 +69,11 @@ impl Size {
         ensures { result ≡ entry_size table.now entry.now }
     {
         match entry {
-            Entry::Clip {
-                unit,
-                span,
-                filters,
-            } => {
+            Entry::Clip { unit, span, .. } => {
                 let frames = (span.last.0 - span.first.0).saturating_add(1);
-                table[unit.0 as usize]
-                    .filtered(filters.count())
-                    .part(frames)
+                table[unit.0 as usize].part(frames)
             }
             Entry::Gap { frames } => Size::plain(*frames),
-        }
-    }
-
-    /// This, with so many filters on it.
-    pub fn filtered(self, filters: usize) -> Size
-        ensures { result ≡ filtered filters self }
-    {
-        let filters = held(filters);
-        Size {
-            weight: self.weight.saturating_add(filters),
-            ops: self.ops.saturating_add(filters),
-            ..self
         }
     }
 
@@ -115,23 +88,15 @@ impl Size {
     }
 
     /// Tracks, over each other.
-    pub fn of_tracks(table: &[Size], tracks: &[Track]) -> Size
-        requires { All (λ track. AreEntriesBelow (length table.now) track.entries) tracks.now }
-        ensures { result ≡ tracks_size table.now tracks.now }
+    pub fn of_drafts(table: &[Size], drafts: &[Draft]) -> Size
+        requires { All (λ draft. AreEntriesBelow (length table.now) draft.entries) drafts.now }
+        ensures { result ≡ drafts_size table.now drafts.now }
     {
         let mut size = Size::nothing();
-        for track in tracks {
-            size = size.under(Size::of_track(table, track));
+        for draft in drafts {
+            size = size.under(Size::of_entries(table, draft.entries.as_slice()));
         }
         size
-    }
-
-    /// A track, whose units are in the table.
-    fn of_track(table: &[Size], track: &Track) -> Size
-        requires { AreEntriesBelow (length table.now) track.now.entries }
-        ensures { result ≡ track_size table.now track.now }
-    {
-        Size::of_entries(table, track.entries.as_slice()).filtered(track.filters.count())
     }
 
     /// The tracks of this, and one more over them.
@@ -141,8 +106,6 @@ impl Size {
         Size {
             length: self.length.max(track.length),
             need: self.need.max(track.need),
-            weight: self.weight.saturating_add(track.weight),
-            ops: self.ops.saturating_add(track.ops),
             depth: self.depth.max(track.depth),
         }
     }
@@ -164,16 +127,7 @@ impl Size {
         Size {
             length: self.length,
             need: self.need.saturating_add(tracks),
-            weight: self.weight,
-            ops: self.ops.saturating_add(u32::from(tracks > 1)),
             depth: self.depth.saturating_add(1),
         }
     }
-}
-
-/// The least of a number and 2^32 - 1.
-fn held(count: usize) -> u32
-    ensures { result ≡ kept count }
-{
-    count.min(u32::MAX as usize) as u32
 }

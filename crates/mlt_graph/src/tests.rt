@@ -4,7 +4,7 @@ ghost use Rattle.std.specs.Prelude.{◌≡◌, ◌≤◌, ◌<◌, ◌^◌, ℕ,
 ghost use Rattle.mlt_base.specs.Span.{IsSpan};
 ghost use Rattle.mlt_tree.specs.Edits.{frames_in};
 ghost use Rattle.mlt_tree.specs.Ranges.{IsAttached};
-ghost use Rattle.mlt_tree.specs.Units.{IsEntryBelow, AreEntriesBelow};
+ghost use Rattle.mlt_tree.specs.Units.{drafts_of, IsEntryBelow, AreEntriesBelow};
 
 use crate::{Format, Graph, GraphFault, Level, Output, Pix};
 use mlt_base::{Pos, Profile, Rate, SourceNo, Span, Text, UnitId};
@@ -62,7 +62,7 @@ fn clip_of(alloc: Global, unit: UnitId, frames: u32) -> Result<EntryList, AllocE
 
 /// A track of the first frames of a unit, or with no entry where none are asked for.
 fn level_of(alloc: Global, unit: UnitId, frames: u32) -> Result<Level, AllocError>
-    ensures { IfOk result (λ level. (count : ℕ) → unit.0 < count → All (λ track. All (IsEntryBelow count) track.entries) level) }
+    ensures { IfOk result (λ level. (count : ℕ) → unit.0 < count → All (λ draft. All (IsEntryBelow count) draft.entries) (drafts_of level)) }
 {
     let mut level = Level::new(alloc)?;
     if frames > 0 {

@@ -125,7 +125,7 @@ property_kept next (c ∷ name) value done (Open group true) t h =
     })
 
 -- what is divided is what stands before the mark, the mark, and what stands behind it
-divided_whole : (word : List ℕ) (p : List ℕ × List ℕ) → divided word ≡ Some p → p.0 ++ (byte "=" ∷ p.1) ≡ word
+pub divided_whole : (word : List ℕ) (p : List ℕ × List ℕ) → divided word ≡ Some p → p.0 ++ (byte "=" ∷ p.1) ≡ word
 divided_whole word p h = by_mark (ltb (position_or_len is_equals word) (length word)) refl h where
   by_mark : (b : Bool) → ltb (position_or_len is_equals word) (length word) ≡ b → cond b (Some (before_first is_equals word, after_first is_equals word)) None ≡ Some p → p.0 ++ (byte "=" ∷ p.1) ≡ word
   by_mark true is h =

@@ -1,12 +1,18 @@
 pub mod Allowed
 mod Bound
 pub mod Counts
+pub mod Determined
+mod Divided
 mod EditRows
 pub mod FitsTree
 pub mod Kept
-pub mod Named
+mod LevelRows
+mod LoadRows
+mod MeaningRows
 mod Options
 pub mod Past
+pub mod PlainTree
 mod Rows
+mod Trace
 mod UnitRows
 mod WordRows

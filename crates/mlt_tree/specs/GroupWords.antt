@@ -1,13 +1,14 @@
 -- The words of groups, and what is true of groups that were read from words.
-use Rattle.std.specs.Prelude.{ℕ, ◌+◌, ◌<◌, ◌≡◌, Bool, true, false, if◌then◌else◌, List, [], ◌∷◌, ◌++◌, length, map, fold, max, All, Option, None, Some, Ok}
-use Rattle.std.specs.List.{flat_map, enumerate_from}
+use Rattle.std.specs.Prelude.{ℕ, ◌+◌, ◌<◌, ◌≤◌, ◌≡◌, ◌↔◌, Bool, true, false, if◌then◌else◌, List, [], ◌∷◌, ◌++◌, length, map, fold, max, All, Option, None, Some, Ok}
+use Rattle.std.specs.List.{flat_map, enumerate_from, list_any}
 use Rattle.std.specs.Str.{byte}
 use Rattle.mlt_tree.specs.declared.group.TheConstants.{MOST_WORDS}
 use Rattle.mlt_tree.specs.declared.group.Group.{Group}
+use Rattle.mlt_tree.specs.declared.group.GroupKind.TheVariants.{Producer}
 use Rattle.mlt_tree.specs.declared.group.Prop.{Prop}
 use Rattle.mlt_tree.specs.declared.table.Row.{Row}
 use Rattle.mlt_tree.specs.Table.{row_of, name_of}
-use Rattle.mlt_tree.specs.Words.{groups}
+use Rattle.mlt_tree.specs.Words.{is_option, is_equals, groups}
 
 -- the word of a property, with its place
 abbrev pub prop_word : Prop → ℕ × List ℕ
@@ -60,3 +61,34 @@ pub record IsAllowed (group : Group) : Type 0 where
 
 abbrev pub GivesAllowed : Type 0
 GivesAllowed = (words : List (List ℕ)) (gs : List Group) → groups words ≡ Ok gs → All IsAllowed gs
+
+-- whether a `=` is in the word
+abbrev pub has_equals : List ℕ → Bool
+has_equals word = list_any is_equals word
+
+-- the word of a producer is no option, and no property
+pub record IsProducerWord (word : List ℕ) : Type 0 where
+  pub free : is_option word ≡ false
+  pub undivided : has_equals word ≡ false
+
+-- the word of a property is no option, and the `=` behind the name is its first
+pub record IsReadableProp (prop : Prop) : Type 0 where
+  pub free : is_option (prop_word prop).1 ≡ false
+  pub undivided : has_equals prop.name ≡ false
+
+-- a group whose words can be read as no other; each kind but the producer's has its option
+pub record IsReadable (group : Group) : Type 0 where
+  pub producer : group.kind ≡ Producer → IsProducerWord group.arg
+  pub each : All IsReadableProp group.props
+
+-- groups that these words can be: each is allowed and readable, and their words, in order, are these
+pub record AreGroupsOf (words : List (List ℕ)) (gs : List Group) : Type 0 where
+  pub few : length words ≤ MOST_WORDS
+  pub kept : flat_map words_of gs ≡ enumerate_from 0 words
+  pub allowed : All IsAllowed gs
+  pub readable : All IsReadable gs
+
+-- words are read into exactly the groups that they can be, and no words can be two lists of groups
+pub record DeterminesGroups : Type 0 where
+  pub exact : (words : List (List ℕ)) (gs : List Group) → groups words ≡ Ok gs ↔ AreGroupsOf words gs
+  pub one : (words : List (List ℕ)) (gs hs : List Group) → AreGroupsOf words gs → AreGroupsOf words hs → gs ≡ hs

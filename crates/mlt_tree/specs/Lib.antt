@@ -1,7 +1,14 @@
+pub mod Acting
+pub mod Clips
+pub mod Composing
 pub mod Composition
 pub mod Edits
 pub mod GroupWords
 pub mod Lines
+pub mod Loading
+pub mod Meaning
+pub mod Medium
+pub mod Needs
 pub mod Picture
 pub mod Props
 pub mod Ranges
@@ -10,6 +17,7 @@ pub mod Refusing
 pub mod Sealing
 pub mod Services
 pub mod Show
+pub mod Sizes
 pub mod Sources
 pub mod Table
 pub mod Tree

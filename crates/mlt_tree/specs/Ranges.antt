@@ -6,8 +6,12 @@ use Rattle.mlt_tree.specs.declared.entry.Entry.{Entry}
 use Rattle.mlt_tree.specs.declared.entry.Entry.TheVariants.{Clip, Gap}
 use Rattle.mlt_tree.specs.declared.filter.FilterSpec.{FilterSpec}
 use Rattle.mlt_tree.specs.declared.filter.FilterSpec.TheVariants.{Brightness, Greyscale, Invert, Mirror, Crop, Threshold, Sepia, Obscure, Opacity, SwapChannels, Volume, Mono, ChannelCopy, ChannelSwap, Silence}
+use Rattle.mlt_tree.specs.declared.filter.FilterStep.{FilterStep}
+use Rattle.mlt_tree.specs.declared.filter.FilterStep.TheVariants as step
 use Rattle.mlt_tree.specs.declared.merge.MergeSpec.{MergeSpec}
 use Rattle.mlt_tree.specs.declared.merge.MergeSpec.TheVariants.{Luma, Composite, Matte, Mix, Sum}
+use Rattle.mlt_tree.specs.declared.merge.MergeStep.{MergeStep}
+use Rattle.mlt_tree.specs.declared.merge.MergeStep.TheVariants as merge_step
 use Rattle.mlt_tree.specs.declared.tree.Attached.{Attached}
 use Rattle.mlt_tree.specs.declared.tree.Plant.{Plant}
 use Rattle.mlt_tree.specs.declared.tree.Plant.TheVariants.{OnTrack, Between}
@@ -35,6 +39,32 @@ IsMerge (Composite geometry) = Unit {0}
 IsMerge Matte = Unit {0}
 IsMerge Mix = Unit {0}
 IsMerge Sum = Unit {0}
+
+-- a filter where so many frames of its span have passed
+abbrev pub IsFilterStep : FilterStep → Type 0
+IsFilterStep (step.Brightness level) = Unit {0}
+IsFilterStep step.Greyscale = Unit {0}
+IsFilterStep step.Invert = Unit {0}
+IsFilterStep (step.Mirror vertical) = Unit {0}
+IsFilterStep (step.Crop left right top bottom) = (left ≤ 4096) × (right ≤ 4096) × (top ≤ 4096) × (bottom ≤ 4096)
+IsFilterStep (step.Threshold midpoint) = midpoint ≤ 255
+IsFilterStep step.Sepia = Unit {0}
+IsFilterStep (step.Obscure size) = (1 ≤ size) × (size ≤ 4096)
+IsFilterStep (step.Opacity level) = Unit {0}
+IsFilterStep (step.SwapChannels order) = All (λ channel. channel < 4) order
+IsFilterStep (step.Volume level) = Unit {0}
+IsFilterStep step.Mono = Unit {0}
+IsFilterStep (step.ChannelCopy from to) = (from ≤ 1) × (to ≤ 1)
+IsFilterStep step.ChannelSwap = Unit {0}
+IsFilterStep step.Silence = Unit {0}
+
+-- a merge where p of its frames have passed: it has more, and is at most whole
+abbrev pub IsMergeStep : MergeStep → Type 0
+IsMergeStep (merge_step.Luma map softness q) = (softness.0 ≤ 65536) × (q.0 ≤ 65536)
+IsMergeStep (merge_step.Composite geometry) = Unit {0}
+IsMergeStep merge_step.Matte = Unit {0}
+IsMergeStep (merge_step.Mix p frames) = p < frames
+IsMergeStep merge_step.Sum = Unit {0}
 
 abbrev pub IsAttached : Attached → Type 0
 IsAttached filter = IsFilter filter.spec × IsSpan filter.span

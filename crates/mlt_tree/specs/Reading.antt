@@ -1,13 +1,13 @@
 -- What a list of words means.
-use Rattle.std.specs.Prelude.{ℕ, Bool, true, false, if◌then◌else◌, List, [], ◌∷◌, length, Option, None, Some, Result, Ok, Err, find, codes}
+use Rattle.std.specs.Prelude.{ℕ, Bool, if◌then◌else◌, List, [], ◌∷◌, length, Option, None, Some, Result, Ok, Err, find, codes}
 use Rattle.std.specs.List.{list_any}
+use Rattle.std.specs.Option.{option_map}
 use Rattle.std.specs.Str.{bytes_eq}
-use Rattle.mlt_base.specs.Steps.{◌>>=◌}
 use Rattle.mlt_base.specs.declared.faults.WordFault.{WordFault}
 use Rattle.mlt_base.specs.declared.faults.WordCause.{WordCause}
 use Rattle.mlt_base.specs.declared.faults.WordCause.TheVariants as word
 use Rattle.mlt_base.specs.declared.port.Port.{Port}
-use Rattle.mlt_base.specs.declared.port.Port.TheVariants.{Video, Audio, Script, Text}
+use Rattle.mlt_base.specs.declared.port.Port.TheVariants.{Text}
 use Rattle.mlt_tree.specs.declared.group.Group.{Group}
 use Rattle.mlt_tree.specs.declared.group.GroupKind.{GroupKind}
 use Rattle.mlt_tree.specs.declared.group.GroupKind.TheVariants as kind
@@ -16,93 +16,67 @@ use Rattle.mlt_tree.specs.declared.query.QueryKind.TheVariants.{Producers, Filte
 use Rattle.mlt_tree.specs.declared.refusal.Cause.{Cause}
 use Rattle.mlt_tree.specs.declared.refusal.Cause.TheVariants as cause
 use Rattle.mlt_tree.specs.declared.refusal.Refusal.{Refusal}
-use Rattle.mlt_tree.specs.Show.{Show, video_bytes}
-use Rattle.mlt_tree.specs.Refusing.{refusal_at, refuse, known, over}
-use Rattle.mlt_tree.specs.Sealing.{show_of}
+use Rattle.mlt_tree.specs.Composing.{show_of}
+use Rattle.mlt_tree.specs.Loading.{Files, no_files, Load, Stop, Read, done, plainly, ◌>>=◌}
+use Rattle.mlt_tree.specs.Meaning.{or_under}
+use Rattle.mlt_tree.specs.Refusing.{refuse, known, over}
+use Rattle.mlt_tree.specs.Show.{Show, output_of, prefix, written_frames}
+use Rattle.mlt_tree.specs.Table.{is_kind}
 use Rattle.mlt_tree.specs.Words.{groups}
-
--- the files that words may name, by name
-abbrev pub Files : Type 0
-Files = List ℕ → Option (List ℕ)
-
-abbrev pub no_files : Files
-no_files name = None
 
 -- a question that is answered on the text
 pub data TextJob : Type 0 where
   Version : TextJob
   Query : QueryKind → TextJob
 
--- what words mean: something to play, something to print, or why they are refused
-pub data Reading : Type 0 where
-  Play : Show → Reading
-  Print : TextJob → Reading
-  Refused : Refusal → Reading
+-- what words ask for
+pub data Job : Type 0 where
+  Play : Show → Job
+  Print : TextJob → Job
+
+-- what words mean: something to play or to print, or why they are not read to their end
+abbrev pub Reading : Type 0
+Reading = Result Job Stop
 
 -- ---- the job
 
-abbrev pub is_version : Group → Bool
-is_version g = by g.kind where
-  by : GroupKind → Bool
-  by kind.Version = true
-  by _ = false
-
-abbrev pub is_query : Group → Bool
-is_query g = by g.kind where
-  by : GroupKind → Bool
-  by kind.Query = true
-  by _ = false
-
-abbrev pub is_serialise : Group → Bool
-is_serialise g = by g.kind where
-  by : GroupKind → Bool
-  by kind.Serialise = true
-  by _ = false
-
-abbrev pub is_generate : Group → Bool
-is_generate g = by g.kind where
-  by : GroupKind → Bool
-  by kind.Generate = true
-  by _ = false
-
--- the first, or the second where there is none
-abbrev pub or_else : Option Group → Option Group → Option Group
-or_else None second = second
-or_else (Some g) second = Some g
+abbrev pub is_of : GroupKind → Group → Bool
+is_of kind g = is_kind kind (Some g.kind)
 
 abbrev pub query_named : List ℕ → Option QueryKind
 query_named text =
     if bytes_eq text (codes "producers") then Some Producers else (if bytes_eq text (codes "filters") then Some Filters else (if bytes_eq text (codes "transitions") then Some Transitions else (if bytes_eq text (codes "consumers") then Some Consumers else (if bytes_eq text (codes "profiles") then Some Profiles else None))))
 
 abbrev pub query_again : Option QueryKind → Group → Result (Option QueryKind) Refusal
-query_again None g = known g.place cause.BadValue (query_named g.arg) >>= λ asked. Ok (Some asked)
+query_again None g = known g.place cause.BadValue (option_map Some (query_named g.arg))
 query_again (Some asked) g = refuse g.place (cause.TooMany 1)
 
 -- the first `-query` counts, and a second is refused
 unfoldable pub query_step : Option QueryKind → Group → Result (Option QueryKind) Refusal
-query_step asked g = if is_query g then query_again asked g else Ok asked
+query_step asked g = if is_of kind.Query g then query_again asked g else Ok asked
 
-abbrev pub query_read : Result (Option QueryKind) Refusal → Reading
-query_read (Ok None) = Print Version
-query_read (Ok (Some asked)) = Print (Query asked)
-query_read (Err refusal) = Refused refusal
+abbrev pub query_job : Option QueryKind → Job
+query_job None = Print Version
+query_job (Some asked) = Print (Query asked)
 
-abbrev pub show_read : Result Show Refusal → Reading
-show_read (Ok show) = Play show
-show_read (Err refusal) = Refused refusal
+abbrev pub query_read : Result (Option QueryKind) Refusal → Read Job
+query_read asked = plainly asked >>= λ asked. done (query_job asked)
+
+abbrev pub show_read : Read Show → Read Job
+show_read read = read >>= λ show. done (Play show)
 
 -- the first `-serialise`, else the first `-generate`: the jobs that are not built yet
 abbrev pub later_job : List Group → Option Group
-later_job gs = or_else (find is_serialise gs) (find is_generate gs)
+later_job gs = or_under (find (is_of kind.Serialise) gs) (find (is_of kind.Generate) gs)
 
-abbrev pub play_unless : Option Group → ℕ → List Group → Reading
-play_unless (Some g) count gs = Refused (refusal_at g.place cause.Unsupported)
-play_unless None count gs = show_read (show_of count gs)
+abbrev pub play_unless : Files → ℕ → List Group → Option Group → Read Job
+play_unless files count gs (Some g) = plainly (refuse g.place cause.Unsupported)
+play_unless files count gs None = show_read (show_of files count gs)
 
 -- the first of these jobs that the words have, else to play
-abbrev pub job_of : ℕ → List Group → Reading
-job_of count gs =
-    if list_any is_version gs then Print Version else (if list_any is_query gs then query_read (over query_step None gs) else play_unless (later_job gs) count gs)
+abbrev pub job_of : Files → ℕ → List Group → Read Job
+job_of files count gs =
+    if list_any (is_of kind.Version) gs then done (Print Version) else (if list_any (is_of kind.Query) gs then query_read (over query_step None gs) else play_unless files count gs (later_job gs))
 
 abbrev pub cause_of : WordCause → Cause
 cause_of word.UnknownOption = cause.UnknownOption
@@ -111,24 +85,27 @@ cause_of word.MissingArgument = cause.MissingArgument
 cause_of word.StrayProperty = cause.StrayProperty
 cause_of (word.TooMany limit) = cause.TooMany limit
 
-abbrev pub groups_read : ℕ → Result (List Group) WordFault → Reading
-groups_read count (Err fault) = Refused (refusal_at fault.place (cause_of fault.cause))
-groups_read count (Ok gs) = job_of count gs
+abbrev pub groups_read : Result (List Group) WordFault → Result (List Group) Refusal
+groups_read (Err fault) = refuse fault.place (cause_of fault.cause)
+groups_read (Ok gs) = Ok gs
 
--- what the words mean with these files: the first fault of the words themselves, then what the groups ask for
+-- the words read, with these files: the first fault of the words themselves, then what the groups ask for
+abbrev pub words_read : List (List ℕ) → Files → Read Job
+words_read words files = plainly (groups_read (groups words)) >>= job_of files (length words)
+
+-- what the words mean with these files
 abbrev pub reading : List (List ℕ) → Files → Reading
-reading words files = groups_read (length words) (groups words)
+reading words files = (words_read words files).end
 
--- the files that the words look up, each by the place of its word and its name, in order; no word that
--- is built names one
-abbrev pub loads : List (List ℕ) → Files → List (ℕ × List ℕ)
-loads words files = []
+-- the files that the words look up, in order
+abbrev pub loads : List (List ℕ) → Files → List Load
+loads words files = (words_read words files).loads
 
 -- what the words mean to a host that tells these files, or none: then only words that name no file
 abbrev pub reading_on : List (List ℕ) → Option Files → Option Reading
 reading_on words (Some files) = Some (reading words files)
 reading_on words None = without (loads words no_files) where
-  without : List (ℕ × List ℕ) → Option Reading
+  without : List Load → Option Reading
   without [] = Some (reading words no_files)
   without (load ∷ more) = None
 
@@ -139,14 +116,17 @@ pub record Written : Type 0 where
   pub name : List ℕ
   pub bytes : List ℕ
 
+-- an output of a show, under its name
+abbrev pub written_of : Show → Port → Option (List ℕ) → Option Written
+written_of show port None = None
+written_of show port (Some name) =
+    Some (record { name = name; bytes = prefix show port (written_frames show) })
+
 -- the outputs that are created, each with its name and its bytes
 abbrev pub written : Reading → Port → Option Written
-written (Play show) Video = Some (record { name = show.output.video; bytes = video_bytes show })
-written (Play show) Audio = None
-written (Play show) Script = None
-written (Play show) Text = None
-written (Print job) port = None
-written (Refused refusal) port = None
+written (Ok (Play show)) port = written_of show port (output_of show port)
+written (Ok (Print job)) port = None
+written (Err stop) port = None
 
 -- the names that are asked for, each with a line end
 abbrev pub query_text : QueryKind → List ℕ
@@ -161,8 +141,12 @@ abbrev pub job_text : TextJob → List ℕ
 job_text Version = codes "melt 1.0.0\n"
 job_text (Query asked) = query_text asked
 
+-- the port that an answer is written to
+abbrev pub job_port : TextJob → Port
+job_port job = Text
+
 -- what is appended to the text that a person reads, before any fault line
 abbrev pub text_bytes : Reading → List ℕ
-text_bytes (Play show) = []
-text_bytes (Print job) = job_text job
-text_bytes (Refused refusal) = []
+text_bytes (Ok (Play show)) = []
+text_bytes (Ok (Print job)) = job_text job
+text_bytes (Err stop) = []

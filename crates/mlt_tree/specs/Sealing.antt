@@ -1,28 +1,37 @@
--- The end of a composition: its tree, whether there is something to play, and not too much of it.
-use Rattle.std.specs.Prelude.{ℕ, ◌+◌, ◌-◌, ◌*◌, ◌^◌, false, nat_le, nat_eq, max, if◌then◌else◌, List, [], ◌∷◌, ◌++◌, length, None, unwrap_or, Result, Ok, codes}
+-- The frame of a composition, and its end: its tree, whether there is something to play, and not too much of it.
+use Rattle.std.specs.Prelude.{ℕ, ◌+◌, ◌-◌, ◌*◌, ◌^◌, nat_le, nat_eq, max, if◌then◌else◌, List, [], ◌∷◌, ◌++◌, length, None, unwrap_or, Result, Ok, codes}
 use Rattle.mlt_base.specs.Samples.{most_samples}
 use Rattle.mlt_base.specs.Steps.{◌>>=◌}
 use Rattle.mlt_tree.specs.declared.group.Group.{Group}
 use Rattle.mlt_tree.specs.declared.node.Node.{Node}
 use Rattle.mlt_tree.specs.declared.refusal.Cause.TheVariants as cause
 use Rattle.mlt_tree.specs.declared.refusal.Refusal.{Refusal}
-use Rattle.mlt_tree.specs.Composition.{Frames, Consumer, State, Cut, start, cut_of, effect, profile_step, default_frames}
+use Rattle.mlt_tree.specs.Clips.{Cut, cut_of}
+use Rattle.mlt_tree.specs.Composition.{Frames, Consumer, State, profile_step, default_frames}
 use Rattle.mlt_tree.specs.Refusing.{refuse, over}
-use Rattle.mlt_tree.specs.Show.{Show, Settings, Source, Rgb, pixels_of}
-use Rattle.mlt_tree.specs.Tree.{Tree, len, need, weight}
+use Rattle.mlt_tree.specs.Show.{Show, Settings, Source, Rgb, S16, pixels_of}
+use Rattle.mlt_tree.specs.Sizes.{need, weight}
+use Rattle.mlt_tree.specs.Tree.{Tree, len}
 use Rattle.mlt_tree.specs.Unbuilt.{built_step}
-use Rattle.mlt_tree.specs.Units.{Draft, tree_of, depth_of, tractor_of}
+use Rattle.mlt_tree.specs.Units.{tree_of, depth_of, tractor_of}
 
--- the one track, which hides nothing
-abbrev pub draft_of : State → Draft
-draft_of s = record { entries = s.track; hide = record { video = false; audio = false } }
+-- ---- the profile, which the first `-profile` gives
+
+-- what is not built is refused first
+unfoldable pub framed : List Group → Result Frames Refusal
+framed gs = do
+  all ← over built_step tt gs
+  frames ← over profile_step None gs
+  Ok (unwrap_or frames default_frames)
+
+-- ---- the end
 
 -- the units of a whole composition: the last one is the tractor
 abbrev pub all_units : State → List Node
-all_units s = s.units ++ tractor_of (draft_of s ∷ []) ∷ []
+all_units s = s.made.units ++ tractor_of s.level ∷ []
 
 abbrev pub whole_tree : State → Tree
-whole_tree s = tree_of (all_units s) (length s.units)
+whole_tree s = tree_of (all_units s) (length s.made.units)
 
 -- `raw:-` with the defaults, where no consumer stands
 abbrev pub default_consumer : Consumer
@@ -46,9 +55,11 @@ unit_of frames = max (pixels_of frames.size * 4) (4 * most_samples frames.rate.n
 abbrev pub bytes_of : Frames → Consumer → ℕ → ℕ
 bytes_of frames c need = unit_of frames * (c.buffer + (c.workers + 1) * need + c.cache)
 
+-- no sound is written yet
 abbrev pub settings_of : Consumer → Cut → Settings
 settings_of c range = record {
   video = c.video;
+  audio = None;
   pix = c.pix;
   first = range.first;
   last = range.last;
@@ -56,6 +67,8 @@ settings_of c range = record {
   buffer = c.buffer;
   slices = c.slices;
   cache = c.cache;
+  channels = 2;
+  format = S16;
 }
 
 -- the positions that are written: in the consumer's place, from its first to its last
@@ -103,21 +116,10 @@ sealable count units top = do
 unfoldable pub show_of_tree : ℕ → State → Tree → Result Show Refusal
 show_of_tree count s t = do
   range ← ranged count s.frames (unwrap_or s.consumer default_consumer) t
-  Ok (show_on s.frames (unwrap_or s.consumer default_consumer) s.sources t range)
+  Ok (show_on s.frames (unwrap_or s.consumer default_consumer) s.made.sources t range)
 
 -- at the end of so many words
 unfoldable pub seal : ℕ → State → Result Show Refusal
 seal count s = do
-  whole ← sealable count (all_units s) (length s.units)
+  whole ← sealable count (all_units s) (length s.made.units)
   show_of_tree count s (whole_tree s)
-
--- what is not built first, then the profile, then the groups in word order
-unfoldable pub composed : List Group → Result State Refusal
-composed gs = do
-  all ← over built_step tt gs
-  frames ← over profile_step None gs
-  over effect (start (unwrap_or frames default_frames)) gs
-
--- the show of the groups of so many words
-unfoldable pub show_of : ℕ → List Group → Result Show Refusal
-show_of count gs = composed gs >>= seal count

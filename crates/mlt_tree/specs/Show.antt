@@ -1,8 +1,15 @@
 -- What is played, and the bytes that it gives.
 use Rattle.std.specs.Prelude.{ℕ, ◌+◌, ◌-◌, ◌*◌, zero, suc, List, [], ◌++◌, length, Option, None, Some, unwrap_or, slice_get}
 use Rattle.mlt_base.specs.Colour.{Pixel}
+use Rattle.mlt_base.specs.declared.port.Port.{Port}
+use Rattle.mlt_base.specs.declared.port.Port.TheVariants.{Video, Audio, Script, Text}
+use Rattle.mlt_tree.specs.declared.tree.SourceKind.{SourceKind}
+use Rattle.mlt_tree.specs.declared.tree.SourceKind.TheVariants.{Colour}
+use Rattle.mlt_tree.specs.Meaning.{Matter, mean}
+use Rattle.mlt_tree.specs.Medium.{Pictures}
+use Rattle.mlt_tree.specs.Needs.{needs}
 use Rattle.mlt_tree.specs.Picture.{plain, clear, over_black}
-use Rattle.mlt_tree.specs.Tree.{Tree, Matter, Pictures, mean, needs}
+use Rattle.mlt_tree.specs.Tree.{Tree}
 
 -- the width and height of a frame, in pixels
 pub record Size : Type 0 where
@@ -18,6 +25,10 @@ pub record Fraction : Type 0 where
 pub data Source : Type 0 where
   Plain : Pixel → Source
 
+-- the kind of a source
+abbrev pub kind_of : Source → SourceKind
+kind_of (Plain pixel) = Colour
+
 -- how the pixels of a picture are written
 pub data Pix : Type 0 where
   -- laid over black, three bytes a pixel
@@ -25,9 +36,18 @@ pub data Pix : Type 0 where
   -- as they are, four bytes a pixel
   Rgba : Pix
 
+-- how a sample of sound is written
+pub data Format : Type 0 where
+  -- in two bytes
+  S16 : Format
+  -- in four bytes
+  S32 : Format
+
 -- where the frames go, which, and by how many hands
 pub record Settings : Type 0 where
+  -- the name of the pictures' output, and of the sound's, if it is written
   pub video : List ℕ
+  pub audio : Option (List ℕ)
   pub pix : Pix
   pub first : ℕ
   pub last : ℕ
@@ -39,6 +59,9 @@ pub record Settings : Type 0 where
   pub slices : ℕ
   -- fitted pictures that are kept
   pub cache : ℕ
+  -- channels of the sound
+  pub channels : ℕ
+  pub format : Format
 
 -- a composition with its sources, the frames' size and rate, and the output settings
 pub record Show : Type 0 where
@@ -60,8 +83,13 @@ abbrev pub picture_of : Size → Option Source → List ℕ
 picture_of size None = clear (pixels_of size)
 picture_of size (Some source) = source_picture size source
 
+-- what pictures are made of. Filters and merges come with their formulas: no show that is played has one yet
 abbrev pub pictures : Show → Matter (List ℕ)
-pictures show = record { source = λ s n. picture_of show.size (slice_get show.sources s) }
+pictures show = record {
+  source = λ source n. picture_of show.size (slice_get show.sources source);
+  filter = λ step picture. picture;
+  merge = λ step under picture. picture;
+}
 
 -- the picture of a position, nothing counting as transparent black
 abbrev pub picture_at : Show → ℕ → List ℕ
@@ -76,18 +104,30 @@ packed Rgba picture = picture
 abbrev pub video_of : Show → ℕ → List ℕ
 video_of show n = packed show.output.pix (picture_at show n)
 
+-- ---- what is written, by port
+
+-- the name of each output that a show writes
+abbrev pub output_of : Show → Port → Option (List ℕ)
+output_of show Video = Some show.output.video
+output_of show Audio = show.output.audio
+output_of show Script = None
+output_of show Text = None
+
+-- what a position gives to an output; sound comes later, and no show that is played has it yet
+abbrev pub piece : Show → Port → ℕ → List ℕ
+piece show Video n = video_of show n
+piece show Audio n = []
+piece show Script n = []
+piece show Text n = []
+
 -- how many positions are written
 abbrev pub written_frames : Show → ℕ
 written_frames show = show.output.last + 1 - show.output.first
 
 -- the bytes of the first so many positions, one after another
-abbrev pub video_front : Show → ℕ → List ℕ
-video_front show zero = []
-video_front show (suc count) = video_front show count ++ video_of show (show.output.first + count)
-
--- the bytes of all of them
-abbrev pub video_bytes : Show → List ℕ
-video_bytes show = video_front show (written_frames show)
+abbrev pub prefix : Show → Port → ℕ → List ℕ
+prefix show port zero = []
+prefix show port (suc count) = prefix show port count ++ piece show port (show.output.first + count)
 
 -- how many source pictures the first so many positions are made of, together
 abbrev pub loads_to : Show → ℕ → ℕ

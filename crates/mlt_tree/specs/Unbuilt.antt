@@ -1,38 +1,22 @@
--- Words that are not built yet: each is refused at its place, before all else that is said of a composition.
-use Rattle.std.specs.Prelude.{ℕ, ◌||◌, Bool, true, false, if◌then◌else◌, List, Option, None, Some, Result, Ok, find, codes}
+-- What is not built yet: each such word is refused at its place, before all else that is said of a composition.
+use Rattle.std.specs.Prelude.{ℕ, ◌≡◌, ◌||◌, Bool, true, false, if◌then◌else◌, List, [], Option, None, Some, Result, Ok, find, All, codes}
 use Rattle.std.specs.Str.{bytes_eq}
+use Rattle.mlt_tree.specs.declared.entry.Entry.{Entry}
+use Rattle.mlt_tree.specs.declared.entry.Entry.TheVariants.{Clip, Gap}
 use Rattle.mlt_tree.specs.declared.group.Group.{Group}
 use Rattle.mlt_tree.specs.declared.group.GroupKind.{GroupKind}
 use Rattle.mlt_tree.specs.declared.group.GroupKind.TheVariants as kind
 use Rattle.mlt_tree.specs.declared.group.Prop.{Prop}
+use Rattle.mlt_tree.specs.declared.node.Body.{Body}
+use Rattle.mlt_tree.specs.declared.node.Body.TheVariants as body
+use Rattle.mlt_tree.specs.declared.node.Node.{Node}
+use Rattle.mlt_tree.specs.declared.node.Track.{Track as TrackOf}
 use Rattle.mlt_tree.specs.declared.refusal.Cause.TheVariants as cause
 use Rattle.mlt_tree.specs.declared.refusal.Refusal.{Refusal}
 use Rattle.mlt_tree.specs.Refusing.{refuse}
 use Rattle.mlt_tree.specs.Services.{Named, Service, ColourService, PictureFile, SoundFile, MeltFile, producer_of, raw_of}
-
--- whether a group of this kind is done
-abbrev pub is_built : GroupKind → Bool
-is_built kind.Producer = true
-is_built kind.Group = true
-is_built kind.Blank = true
-is_built kind.Join = true
-is_built kind.Remove = true
-is_built kind.Repeat = true
-is_built kind.Split = true
-is_built kind.Swap = true
-is_built kind.Profile = true
-is_built kind.Consumer = true
-is_built kind.Query = true
-is_built kind.Version = true
-is_built kind.Quiet = true
-is_built kind.Silent = true
-is_built kind.Progress = true
-is_built kind.Verbose = true
-is_built kind.Debug = true
-is_built kind.Getc = true
-is_built kind.Timings = true
-is_built kind.Abort = true
-is_built _ = false
+use Rattle.mlt_tree.specs.Show.{Show}
+use Rattle.mlt_tree.specs.Tree.{Tree, Parts, Tracks, Src, Blank, Part, Seq, With, Rows, End, Then, NoTrack, Track}
 
 -- whether this property of the consumer is not
 abbrev pub is_later_prop : Prop → Bool
@@ -60,12 +44,93 @@ props_built g None = Ok tt
 props_built g (Some name) = refuse_prop (find is_later_prop g.props)
 
 unfoldable pub built : Group → Result (Unit {0}) Refusal
-built g = if is_built g.kind then by g.kind else refuse g.place cause.Unsupported where
+built g = by g.kind where
+  later : Result (Unit {0}) Refusal
+  later = refuse g.place cause.Unsupported
+
   by : GroupKind → Result (Unit {0}) Refusal
   by kind.Producer = producer_built g
+  by kind.Attach = later
+  by kind.AttachCut = later
+  by kind.AttachClip = later
+  by kind.AttachTrack = later
+  by kind.Filter = later
+  by kind.Transition = later
+  by kind.Blank = Ok tt
+  by kind.Group = Ok tt
+  by kind.Join = Ok tt
+  by kind.Mix = later
+  by kind.Mixer = later
+  by kind.Remove = Ok tt
+  by kind.Repeat = Ok tt
+  by kind.Split = Ok tt
+  by kind.Swap = Ok tt
+  by kind.Track = later
+  by kind.HideVideo = later
+  by kind.AudioTrack = later
+  by kind.HideAudio = later
+  by kind.VideoTrack = later
+  by kind.HideTrack = later
+  by kind.NullTrack = later
+  by kind.Profile = Ok tt
   by kind.Consumer = props_built g (raw_of g.arg)
-  by _ = Ok tt
+  by kind.Serialise = later
+  by kind.Query = Ok tt
+  by kind.Version = Ok tt
+  by kind.Generate = later
+  by kind.Quiet = Ok tt
+  by kind.Silent = Ok tt
+  by kind.Progress = Ok tt
+  by kind.Verbose = Ok tt
+  by kind.Debug = Ok tt
+  by kind.Getc = Ok tt
+  by kind.Timings = Ok tt
+  by kind.Abort = Ok tt
 
 -- one group after another
 abbrev pub built_step : Unit {0} → Group → Result (Unit {0}) Refusal
 built_step done g = built g
+
+-- ---- what no player plays yet
+
+abbrev mutual
+  -- a tree with no filter, and with nothing planted
+  pub IsPlain : Tree → Type 0
+  IsPlain (Src source kind frames) = Unit {0}
+  IsPlain (Blank frames) = Unit {0}
+  IsPlain (Part t first last) = IsPlain t
+  IsPlain (Seq parts) = ArePlainParts parts
+  IsPlain (With t filters) = IsPlain t × (filters ≡ [])
+  IsPlain (Rows tracks plants) = ArePlainTracks tracks × (plants ≡ [])
+
+  pub ArePlainParts : Parts → Type 0
+  ArePlainParts End = Unit {0}
+  ArePlainParts (Then t parts) = IsPlain t × ArePlainParts parts
+
+  pub ArePlainTracks : Tracks → Type 0
+  ArePlainTracks NoTrack = Unit {0}
+  ArePlainTracks (Track t hide tracks) = IsPlain t × ArePlainTracks tracks
+
+-- a show that can be played: with no filter, nothing planted, and no sound
+pub record IsPlayed (show : Show) : Type 0 where
+  pub plain : IsPlain show.tree
+  pub silent : show.output.audio ≡ None
+
+-- an entry with no filter
+abbrev pub IsPlainEntry : Entry → Type 0
+IsPlainEntry (Clip unit span filters) = filters ≡ []
+IsPlainEntry (Gap frames) = Unit {0}
+
+pub record IsPlainTrack (track : TrackOf) : Type 0 where
+  pub entries : All IsPlainEntry track.entries
+  pub filters : track.filters ≡ []
+
+abbrev pub IsPlainBody : Body → Type 0
+IsPlainBody (body.Source source kind frames) = Unit {0}
+IsPlainBody (body.Entries entries) = All IsPlainEntry entries
+IsPlainBody (body.Tractor tracks plants) = All IsPlainTrack tracks × (plants ≡ [])
+
+-- a unit with no filter, whose entries and tracks have none, and with nothing planted
+pub record IsPlainNode (node : Node) : Type 0 where
+  pub body : IsPlainBody node.body
+  pub filters : node.filters ≡ []

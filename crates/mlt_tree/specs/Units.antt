@@ -1,14 +1,23 @@
--- Units, and the tree that each stands for.
-use Rattle.std.specs.Prelude.{ℕ, ◌+◌, ◌≡◌, ◌<◌, max, List, [], ◌∷◌, ◌++◌, length, map, fold, get_or, All}
+-- Units, the tree that each stands for, and the tracks that become one.
+use Rattle.std.specs.Prelude.{ℕ, ◌+◌, ◌-◌, ◌≡◌, ◌≢◌, ◌<◌, max, false, List, [], ◌∷◌, ◌++◌, length, map, fold, get_or, Option, unwrap_or, All}
 use Rattle.mlt_base.specs.declared.profile.SourceNo.{SourceNo}
+use Rattle.mlt_base.specs.declared.value.Span.{Span}
+use Rattle.mlt_base.specs.Span.{span}
+use Rattle.mlt_tree.specs.declared.draft.Draft.{Draft}
+use Rattle.mlt_tree.specs.declared.draft.Pending.{Pending}
+use Rattle.mlt_tree.specs.declared.draft.PendingPlant.{PendingPlant}
+use Rattle.mlt_tree.specs.declared.draft.PendingPlant.TheVariants as pending
 use Rattle.mlt_tree.specs.declared.entry.Entry.{Entry}
 use Rattle.mlt_tree.specs.declared.entry.Entry.TheVariants.{Clip, Gap}
 use Rattle.mlt_tree.specs.declared.node.Body.{Body}
 use Rattle.mlt_tree.specs.declared.node.Body.TheVariants.{Source, Entries, Tractor}
 use Rattle.mlt_tree.specs.declared.node.Node.{Node}
 use Rattle.mlt_tree.specs.declared.node.Track.{Track as TrackOf}
-use Rattle.mlt_tree.specs.declared.tree.Hide.{Hide}
+use Rattle.mlt_tree.specs.declared.tree.Attached.{Attached}
+use Rattle.mlt_tree.specs.declared.tree.Plant.{Plant}
+use Rattle.mlt_tree.specs.declared.tree.Plant.TheVariants.{OnTrack, Between}
 use Rattle.mlt_tree.specs.declared.tree.SourceKind.{SourceKind}
+use Rattle.mlt_tree.specs.Edits.{frames_in}
 use Rattle.mlt_tree.specs.Ranges.{IsAttached, IsEntry, IsPlant}
 use Rattle.mlt_tree.specs.Tree.{Tree, Parts, Tracks, Src, Blank, Part, Seq, With, Rows, End, Then, NoTrack, Track}
 
@@ -57,19 +66,69 @@ trees nodes = fold (λ so_far node. so_far ++ node_tree (nth_tree so_far) node �
 abbrev pub tree_of : List Node → ℕ → Tree
 tree_of nodes unit = nth_tree (trees nodes) unit
 
--- a track of a tractor that is not made yet
-pub record Draft : Type 0 where
-  pub entries : List Entry
-  pub hide : Hide
+-- ---- tracks whose tractor is not made yet
 
+-- where a filter or a merge ends that was given no last position: with the frames that it is on, but not before
+-- it begins
+abbrev pub last_within : (frames first : ℕ) → Option ℕ → ℕ
+last_within frames first last = unwrap_or last (max first (frames - 1))
+
+abbrev pub span_within : (frames first : ℕ) → Option ℕ → Span
+span_within frames first last = span first (last_within frames first last)
+
+-- a filter on so many frames
+abbrev pub attached_within : ℕ → Pending → Attached
+attached_within frames filter =
+    record { spec = filter.spec; span = span_within frames filter.first filter.last }
+
+-- a plant on so many frames
+abbrev pub plant_within : ℕ → PendingPlant → Plant
+plant_within frames (pending.OnTrack track spec first last) = OnTrack track spec (span_within frames first last)
+plant_within frames (pending.Between a b spec first last) = Between a b spec (span_within frames first last)
+
+-- the track, as it stands at the end
 abbrev pub track_of : Draft → TrackOf
-track_of draft = record { entries = draft.entries; filters = []; hide = draft.hide }
+track_of draft = record {
+  entries = draft.entries;
+  filters = map (attached_within (frames_in draft.entries)) draft.filters;
+  hide = draft.hide;
+}
+
+-- the tracks of a tractor that is not made yet: those to which nothing is added any more, the one that entries are
+-- added to, and what is planted on them
+pub record Level : Type 0 where
+  pub closed : List Draft
+  pub current : Draft
+  pub plants : List PendingPlant
+
+-- a track with no entry, which gives both media
+abbrev pub empty_draft : Draft
+empty_draft = record { entries = []; filters = []; hide = record { video = false; audio = false } }
+
+abbrev pub empty_level : Level
+empty_level = record { closed = []; current = empty_draft; plants = [] }
+
+abbrev pub drafts_of : Level → List Draft
+drafts_of level = level.closed ++ level.current ∷ []
+
+-- the frames of the longest track
+abbrev pub level_frames : Level → ℕ
+level_frames level = fold (λ most draft. max most (frames_in draft.entries)) 0 (drafts_of level)
 
 -- the tractor of these tracks
-abbrev pub tractor_of : List Draft → Node
-tractor_of drafts = record { body = Tractor (map track_of drafts) []; filters = [] }
+abbrev pub tractor_of : Level → Node
+tractor_of level = record {
+  body = Tractor (map track_of (drafts_of level)) (map (plant_within (level_frames level)) level.plants);
+  filters = [];
+}
 
--- how deep units are nested: the greatest depth of the entries' units
+-- with other entries in the track that they are added to
+abbrev pub with_entries : Level → List Entry → Level
+with_entries level entries = record level { current = record level.current { entries = entries } }
+
+-- ---- how deep units are nested
+
+-- the greatest depth of the entries' units
 abbrev pub entries_depth : (ℕ → ℕ) → List Entry → ℕ
 entries_depth depths [] = 0
 entries_depth depths (Clip unit span filters ∷ es) = max (depths unit.0) (entries_depth depths es)
@@ -92,6 +151,8 @@ depths nodes = fold (λ so_far node. so_far ++ body_depth (λ unit. get_or so_fa
 abbrev pub depth_of : List Node → ℕ → ℕ
 depth_of nodes unit = get_or (depths nodes) unit 0
 
+-- ---- what holds of the units of a graph
+
 -- each unit of the entries is below a number
 abbrev pub IsEntryBelow : ℕ → Entry → Type 0
 IsEntryBelow count (Clip unit span filters) = unit.0 < count
@@ -105,10 +166,21 @@ pub record IsTrackBelow (count : ℕ) (track : TrackOf) : Type 0 where
   pub entries : AreEntriesBelow count track.entries
   pub filters : All IsAttached track.filters
 
+-- a plant is on tracks that are there, and a merge on two of them
+abbrev pub IsOnTracks : ℕ → Plant → Type 0
+IsOnTracks tracks (OnTrack track spec span) = track < tracks
+IsOnTracks tracks (Between a b spec span) = (a < tracks) × (b < tracks) × (a ≢ b)
+
+-- the units of a tractor's tracks, and its plants
+pub record IsTractorBelow (count : ℕ) (tracks : List TrackOf) (plants : List Plant) : Type 0 where
+  pub tracks_below : All (IsTrackBelow count) tracks
+  pub ranges : All IsPlant plants
+  pub on_tracks : All (IsOnTracks (length tracks)) plants
+
 abbrev pub IsBodyBelow : ℕ → Body → Type 0
 IsBodyBelow count (Source source kind frames) = Unit {0}
 IsBodyBelow count (Entries entries) = AreEntriesBelow count entries
-IsBodyBelow count (Tractor tracks plants) = All (IsTrackBelow count) tracks × All IsPlant plants
+IsBodyBelow count (Tractor tracks plants) = IsTractorBelow count tracks plants
 
 -- units refer to lower-numbered ones alone, and hold what is in its range
 pub record IsGraph (nodes : List Node) : Type 0 where

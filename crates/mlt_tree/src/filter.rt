@@ -1,6 +1,8 @@
 //! Filters: what changes a picture or a sound by itself.
 
 ghost use Rattle.std.specs.Prelude.{◌≡◌, IfOk};
+ghost use Rattle.mlt_tree.specs.Acting.{filter_step};
+ghost use Rattle.mlt_tree.specs.Ranges.{IsFilter, IsFilterStep};
 
 use mlt_base::{Animation, Q16};
 use std::alloc::AllocError;
@@ -112,6 +114,47 @@ impl FilterSpec {
             FilterSpec::ChannelSwap => FilterSpec::ChannelSwap,
             FilterSpec::Silence => FilterSpec::Silence,
         })
+    }
+
+    /// The filter where `p` frames of its span have passed, its animations read there.
+    pub fn step(&self, p: u32) -> FilterStep
+        ensures value { result ≡ filter_step self.now p }
+        ensures range { IsFilter self.now → IsFilterStep result }
+    {
+        match self {
+            FilterSpec::Brightness { level } => FilterStep::Brightness { level: level.at(p) },
+            FilterSpec::Greyscale => FilterStep::Greyscale,
+            FilterSpec::Invert => FilterStep::Invert,
+            FilterSpec::Mirror { vertical } => FilterStep::Mirror {
+                vertical: *vertical,
+            },
+            FilterSpec::Crop {
+                left,
+                right,
+                top,
+                bottom,
+            } => FilterStep::Crop {
+                left: *left,
+                right: *right,
+                top: *top,
+                bottom: *bottom,
+            },
+            FilterSpec::Threshold { midpoint } => FilterStep::Threshold {
+                midpoint: *midpoint,
+            },
+            FilterSpec::Sepia => FilterStep::Sepia,
+            FilterSpec::Obscure { size } => FilterStep::Obscure { size: *size },
+            FilterSpec::Opacity { level } => FilterStep::Opacity { level: level.at(p) },
+            FilterSpec::SwapChannels { order } => FilterStep::SwapChannels { order: *order },
+            FilterSpec::Volume { level } => FilterStep::Volume { level: level.at(p) },
+            FilterSpec::Mono => FilterStep::Mono,
+            FilterSpec::ChannelCopy { from, to } => FilterStep::ChannelCopy {
+                from: *from,
+                to: *to,
+            },
+            FilterSpec::ChannelSwap => FilterStep::ChannelSwap,
+            FilterSpec::Silence => FilterStep::Silence,
+        }
     }
 }
 

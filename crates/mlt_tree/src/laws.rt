@@ -1,7 +1,7 @@
 //! Laws of the definitions: each is the contract of a function that does nothing.
 
-ghost use Rattle.mlt_tree.specs.GroupWords.{CountsWords, GivesAllowed, KeepsWords};
-ghost use Rattle.mlt_tree.specs.Tree.{EndsAtItsLength};
+ghost use Rattle.mlt_tree.specs.GroupWords.{CountsWords, DeterminesGroups, GivesAllowed, KeepsWords};
+ghost use Rattle.mlt_tree.specs.Needs.{EndsAtItsLength};
 
 /// Past its length a tree has no picture and no sound, and needs no source.
 pub fn ends_at_its_length()
@@ -23,4 +23,14 @@ pub fn words_are_counted()
 /// option takes them.
 pub fn groups_are_allowed()
     ensures { GivesAllowed }
+{}
+
+/// Words are read into the only groups that they can be: groups that were read are such, words that can be
+/// groups are read into these, and no words can be two lists of groups.
+///
+/// Words can be groups whose words, in order and each with its place, they are, 10,000 at most, where each
+/// group has an argument and properties only where its option takes them, a producer's word is no option
+/// and has no `=`, and a property's word is no option and has a name, without `=`.
+pub fn groups_are_determined()
+    ensures { DeterminesGroups }
 {}

@@ -1,11 +1,12 @@
 //! What a composition means: the plain types and the definitions that every contract above cites.
 //!
-//! The definitions stand in `specs/`, one subject each. A newcomer reads `Tree` (what a composition
-//! is and which picture it has at a position), then `Show` (the bytes of a run), `Reading` (what
-//! words mean) and `Lines` (what a person is told). They know nothing of stacks, buffers, workers or
+//! The definitions stand in `specs/`, one subject each. A newcomer reads `Tree` (what a composition is),
+//! `Meaning` (what it has at a position), then `Show` (the bytes of a run), `Reading` (what words mean)
+//! and `Lines` (what a person is told). They know nothing of stacks, buffers, workers or
 //! hosts. Below stands `mlt_base`; all crates that build, start or render a composition stand above.
 #![tactic(auto)]
 
+pub mod draft;
 pub mod entry;
 pub mod filter;
 pub mod group;
@@ -18,6 +19,7 @@ pub mod refusal;
 pub mod table;
 pub mod tree;
 
+pub use draft::{Draft, Pending, PendingPlant};
 pub use entry::Entry;
 pub use filter::{FilterSpec, FilterStep};
 pub use group::{Group, GroupKind, MOST_WORDS, Prop};

@@ -1,5 +1,9 @@
 //! Merges: what makes one picture or sound of two, that of a row `a` and that of a row `b`.
 
+ghost use Rattle.std.specs.Prelude.{◌≡◌, ◌<◌, ◌≤◌};
+ghost use Rattle.mlt_tree.specs.Acting.{progress, merge_step};
+ghost use Rattle.mlt_tree.specs.Ranges.{IsMerge, IsMergeStep};
+
 use mlt_base::{Geometry, Q16, SourceNo};
 
 /// A merge as it is asked for, with one variant for each transition that a word may name.
@@ -45,4 +49,36 @@ pub enum MergeStep {
         len: u32,
     },
     Sum,
+}
+
+/// How far `p` of `len` frames are, in 65536ths.
+fn progress(p: u32, len: u32) -> Q16
+    requires { p < len }
+    ensures value { result.0 ≡ progress p len }
+    ensures most { result.0 ≤ 65536 }
+{
+    Q16((u64::from(p) * 65536 / u64::from(len)) as u32)
+}
+
+impl MergeSpec {
+    /// The merge where `p` of its `len` frames have passed.
+    pub fn step(&self, p: u32, len: u32) -> MergeStep
+        requires { p < len }
+        ensures value { result ≡ merge_step self.now p len }
+        ensures range { IsMerge self.now → IsMergeStep result }
+    {
+        match self {
+            MergeSpec::Luma { map, softness } => MergeStep::Luma {
+                map: *map,
+                softness: *softness,
+                q: progress(p, len),
+            },
+            MergeSpec::Composite { geometry } => MergeStep::Composite {
+                geometry: *geometry,
+            },
+            MergeSpec::Matte => MergeStep::Matte,
+            MergeSpec::Mix => MergeStep::Mix { p, len },
+            MergeSpec::Sum => MergeStep::Sum,
+        }
+    }
 }

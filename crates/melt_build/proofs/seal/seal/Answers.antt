@@ -1,13 +1,38 @@
-use Rattle.std.proofs.Common.{◌++◌, [], ◌∷◌, length, ap, sym, ◌∙◌, subst}
+use Rattle.std.proofs.Common.{◌++◌, [], ◌∷◌, length, ap, sym, ◌∙◌, subst, refl}
+use Rattle.std.proofs.lemmas.List.Elements.{All-push}
+use Rattle.mlt_base.specs.Try.{Fails}
+use Rattle.mlt_tree.specs.Sealing.{show_of_tree}
 use Rattle.mlt_tree.specs.Sources.{Fits}
+use Rattle.mlt_tree.specs.Unbuilt.{IsPlain, IsPlainNode}
 use Rattle.mlt_tree.specs.Units.{tractor_of}
 use Rattle.mlt_tree.proofs.FitsTree.{fits_tree}
+use Rattle.mlt_tree.proofs.PlainTree.{plain_tree}
 use Rattle.mlt_graph.specs.Sealed.{tree}
-use Rattle.melt_build.proofs.Sealed.{fits_more}
+use Rattle.melt_build.specs.State.{state_view}
+use Rattle.melt_build.proofs.Levels.{level_below, tractor_plain, no_maps}
+use Rattle.melt_build.proofs.Sealed.{fits_more, seal-tree}
 use Rattle.melt_build.proofs.seal.seal.Goals as goal
 
-pub returns-clause-fits : goal.returns-clause-fits
-returns-clause-fits c =
+pub sealed-requires : goal.sealed-requires
+sealed-requires c = level_below (length c.args.state.made.graph) c.args.state.level c.requires.level
+
+pub returns-in-Ok-clause-fits : goal.returns-in-Ok-clause-fits
+returns-in-Ok-clause-fits c =
     let state = c.args.state in
-    let units = state.graph ++ tractor_of state.level ∷ [] in
-    subst (Fits state.table) (sym (c.in_ok-show.ensures.tree ∙ ap tree c.in_ok-sealed.ensures.sealed)) (fits_tree state.table units (fits_more state.table state.graph (tractor_of state.level) tt c.requires.fits) (length state.graph))
+    let units = state.made.graph ++ tractor_of state.level ∷ [] in
+    subst (Fits state.made.table) (sym (c.in-Ok.ensures.tree ∙ ap tree c.in_ok-sealed.ensures.sealed)) (fits_tree state.made.table units (fits_more state.made.table state.made.graph (tractor_of state.level) (no_maps state.made.table (length state.made.graph) state.level c.requires.level) c.requires.made.fits) (length state.made.graph))
+
+pub returns-in-Ok-clause-played : goal.returns-in-Ok-clause-played
+returns-in-Ok-clause-played c =
+    let state = c.args.state in
+    let graph = state.made.graph in
+    let units = graph ++ tractor_of state.level ∷ [] in
+    record {
+      plain = subst IsPlain (sym (c.in-Ok.ensures.tree ∙ ap tree c.in_ok-sealed.ensures.sealed)) (plain_tree units (All-push IsPlainNode graph (tractor_of state.level) c.requires.made.plain (tractor_plain (length graph) state.level c.requires.level)) (length graph));
+      silent = c.in-Ok.ensures.silent;
+    }
+
+pub returns-in-Err-clause-show : goal.returns-in-Err-clause-show
+returns-in-Err-clause-show c =
+    let s = state_view c.args.state in
+    subst (Fails c.in-Err.refusal) (sym (seal-tree c.args.count s c.in_ok-sealed.ensures.value ∙ ap (show_of_tree c.args.count s) (sym (ap tree c.in_ok-sealed.ensures.sealed)))) (c.in-Err.ensures.show s refl refl)

@@ -5,10 +5,10 @@ use Rattle.mlt_graph.specs.Sealed.{tree}
 use Rattle.mlt_graph.specs.Show.{meant, pix_of}
 use Rattle.mlt_tree.specs.Picture.{plain}
 use Rattle.mlt_tree.specs.Show.{packed}
-use Rattle.mlt_tree.proofs.Named.{needs_named}
 use Rattle.melt_build.specs.Sources.{pixel}
 use Rattle.melt_run.specs.Pixels.{picture_bytes}
 use Rattle.melt_run.proofs.Drawn.{drawn}
+use Rattle.melt_run.proofs.Named.{needs_named}
 use Rattle.melt_run.proofs.draw.draw.Goals as goal
 
 pub returns-clause-picture : goal.returns-clause-picture
@@ -18,12 +18,12 @@ returns-clause-picture c =
     let count = c.pixels-count.result in
     let colour = pixel c.colour_of.result in
     let bytes : length first ≡ c.picture_bytes-bytes.result =
-    let long = c.paint.auto.bytes in omega (arith, c.requires, length-take c.picture_bytes-bytes.result c.args.buffer.now, long)
+    let long = c.paint.auto.bytes in omega (arith, c.requires.length, length-take c.picture_bytes-bytes.result c.args.buffer.now, long)
     in
     let front = take_at first (drop c.picture_bytes-bytes.result c.args.buffer.now) (picture_bytes show) (bytes ∙ c.picture_bytes-bytes.ensures.value) in
-    let picture = drawn (meant show c.args.table.now) c.args.at _ colour c.source_at-source.ensures c.colour_of.ensures in
+    let picture = drawn (meant show c.args.table.now) c.args.at _ colour c.requires.plain c.source_at-source.ensures c.colour_of.ensures in
     front ∙ c.paint.ensures ∙ ap (λ n. packed (pix_of show.output.pix) (plain n colour)) c.pixels-count.ensures.value ∙ sym picture
 
 pub returns-clause-loads : goal.returns-clause-loads
 returns-clause-loads c =
-    c.loads_of.ensures.value ∙ ap (λ seen. length (option_to_list seen)) c.source_at-source.ensures ∙ ap length (sym (needs_named (tree c.args.show.now.sealed) c.args.at))
+    c.loads_of.ensures.value ∙ ap (λ seen. length (option_to_list seen)) c.source_at-source.ensures ∙ ap length (sym (needs_named (tree c.args.show.now.sealed) c.requires.plain c.args.at))

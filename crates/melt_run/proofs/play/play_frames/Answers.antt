@@ -1,29 +1,48 @@
-use Rattle.std.proofs.Common.{◌≡◌, ◌+◌, ◌-◌, IfSome, refl, ap, ◌∙◌, subst, inr, arith}
+use Rattle.std.proofs.Common.{◌≡◌, ◌+◌, ◌-◌, ◌<◌, IfSome, sym, ap, ◌∙◌, subst, inl, inr, arith}
 use Rattle.mlt_base.specs.declared.port.Port.TheVariants.{Video}
+use Rattle.mlt_host.specs.Host.{Rose}
 use Rattle.mlt_graph.specs.Show.{meant}
-use Rattle.mlt_tree.specs.Show.{written_frames, video_of, loads_to}
-use Rattle.melt_run.specs.Play.{fronted}
+use Rattle.mlt_tree.specs.Show.{written_frames, loads_to}
+use Rattle.melt_run.specs.Play.{fronted, IsCutAt, Plays}
+use Rattle.melt_run.specs.declared.status.Tally.{Tally}
+use Rattle.melt_run.specs.declared.status.Status.TheVariants.{Done, SinkFault}
 use Rattle.melt_run.proofs.Fronted.{grows, cuts}
 use Rattle.melt_run.proofs.Hosts.{only_both}
-use Rattle.melt_run.proofs.Tallies.{rose_since, stopped_is, full_is, loads_more}
+use Rattle.melt_run.proofs.Played.{plays_done, plays_uncreated, plays_cut, keeps_else, same_faults, video_fault}
+use Rattle.melt_run.proofs.Tallies.{stopped_is, full_is, loads_more}
 use Rattle.melt_run.proofs.play.play_frames.Goals as goal
+
+pub returns-in_default-clause-plays : goal.returns-in_default-clause-plays
+returns-in_default-clause-plays g c =
+    let show = meant c.args.show.now c.args.table.now in
+    let a = g.H.Host.state c.args.host.now in let z = g.H.Host.state c.create.new.self in
+    subst (λ tally. Plays show (SinkFault Video tally) a z) (sym c.nothing.ensures) (plays_uncreated show c.requires.played.silent a z c.in_default.ensures.failed)
+
+pub returns-in_default-clause-keeps : goal.returns-in_default-clause-keeps
+returns-in_default-clause-keeps g c =
+    let show = meant c.args.show.now c.args.table.now in let silent = c.requires.played.silent in
+    let a = g.H.Host.state c.args.host.now in let z = g.H.Host.state c.create.new.self in
+    let cause = c.in_default.ensures.cause in let only = c.in_default.ensures.rest in
+    keeps_else show silent a z (SinkFault Video c.nothing.result) only (video_fault show silent a z c.nothing.result only cause.failed cause.never_falls) (inl c.in_default.ensures.creates)
 
 pub returns-in_default-play_frame-clause-plays : goal.returns-in_default-play_frame-clause-plays
 returns-in_default-play_frame-clause-plays g c =
     let show = meant c.args.show.now c.args.table.now in let done = c.loop-done.done in
-    let cut = cuts show done (video_of show (show.output.first + done)) ((g.H.Host.state c.loop-done.host).port Video) ((g.H.Host.state c.play_frame.new.host).port Video) refl c.loop-done.invariant.so_far c.in_default-play_frame.ensures.failed in (
-      refl,
-      rose_since _ _ _ c.loop-done.invariant.never_falls c.in_default-play_frame.ensures.cause.failed,
-      inr (record {
-        counts = stopped_is show done c.loop-done.loads c.stopped.result c.loop-done.invariant.exact c.stopped.ensures;
-        short = omega (arith, ap (λ t. t.frames) c.stopped.ensures);
-        cut = rw c.stopped.ensures cut;
-      }),
-    )
+    let a = g.H.Host.state c.args.host.now in let l = g.H.Host.state c.loop-done.host in let z = g.H.Host.state c.play_frame.new.host in
+    let short : done < written_frames show = omega (arith, c.loop-done-test.true) in
+    let cut = cuts show show.output.video done (l.port Video) (z.port Video) c.loop-done.invariant.so_far c.in_default-play_frame.ensures.failed in
+    plays_cut show c.requires.played.silent a z c.stopped.result (stopped_is show done c.loop-done.loads c.stopped.result short c.loop-done.invariant.exact c.stopped.ensures)
+    (subst (λ n. IfSome (z.port Video) (IsCutAt show Video Video show.output.video n)) (sym (ap (λ (t : Tally). t.frames) c.stopped.ensures)) cut)
 
-pub returns-in_default-play_frame-clause-rest : goal.returns-in_default-play_frame-clause-rest
-returns-in_default-play_frame-clause-rest g c =
-    only_both Video _ _ _ c.loop-done.invariant.rest c.play_frame.ensures.rest
+pub returns-in_default-play_frame-clause-keeps : goal.returns-in_default-play_frame-clause-keeps
+returns-in_default-play_frame-clause-keeps g c =
+    let show = meant c.args.show.now c.args.table.now in let silent = c.requires.played.silent in
+    let a = g.H.Host.state c.args.host.now in let l = g.H.Host.state c.loop-done.host in let z = g.H.Host.state c.play_frame.new.host in
+    let cause = c.play_frame.ensures.cause in let counted = c.loop-done.invariant.counted in
+    let only = only_both Video a l z c.loop-done.invariant.rest c.play_frame.ensures.rest in
+    let rose : Rose (a.faults Video) (z.faults Video) = subst (λ n. Rose n (z.faults Video)) counted c.in_default-play_frame.ensures.cause.failed in
+    keeps_else show silent a z (SinkFault Video c.stopped.result) only (video_fault show silent a z c.stopped.result only rose (omega (arith, cause.never_falls, counted)))
+    (inr (c.play_frame.ensures.creates ∙ c.loop-done.invariant.created))
 
 pub loop-done-preserved : goal.loop-done-preserved
 loop-done-preserved g c =
@@ -31,20 +50,27 @@ loop-done-preserved g c =
     record {
       home = c.play_frame.ensures.home ∙ c.loop-done.invariant.home;
       lent = c.play_frame.ensures.lent ∙ c.loop-done.invariant.lent;
-      so_far = grows show done (video_of show (show.output.first + done)) ((g.H.Host.state c.loop-done.host).port Video) ((g.H.Host.state c.play_frame.new.host).port Video) refl c.loop-done.invariant.so_far c.in-Ok-play_frame.ensures.ok;
+      so_far = grows show show.output.video done Video ((g.H.Host.state c.loop-done.host).port Video) ((g.H.Host.state c.play_frame.new.host).port Video) c.loop-done.invariant.so_far c.in-Ok-play_frame.ensures.ok;
       exact = loads_more show done c.loop-done.loads c.in-Ok-play_frame.more c.loop-done.invariant.exact c.in-Ok-play_frame.ensures.loads.0;
       few = omega (arith, c.loop-done.invariant.few, c.in-Ok-play_frame.ensures.loads.1);
-      never_falls = omega (arith, c.play_frame.ensures.cause.never_falls);
+      counted = c.in-Ok-play_frame.ensures.no_fault ∙ c.loop-done.invariant.counted;
+      created = c.play_frame.ensures.creates ∙ c.loop-done.invariant.created;
       rest = only_both Video _ _ _ c.loop-done.invariant.rest c.play_frame.ensures.rest;
     }
 
 pub returns-clause-plays : goal.returns-clause-plays
 returns-clause-plays g c =
-    let show = meant c.args.show.now c.args.table.now in
-    let count = written_frames show in
-    let loads = c.loop-done.loads in
+    let show = meant c.args.show.now c.args.table.now in let count = written_frames show in let loads = c.loop-done.loads in
+    let a = g.H.Host.state c.args.host.now in let l = g.H.Host.state c.loop-done.host in
     let done : c.loop-done.done ≡ count = omega arith in
-    let frames : c.args.show.now.output.last.0 - c.args.show.now.output.first.0 + 1 ≡ count = omega arith in (
-      full_is show count loads c.all.result (c.loop-done.invariant.exact ∙ ap (loads_to show) done) (c.all.ensures ∙ ap (λ n. record { frames = n; loads = loads; handed = n; taken = n; destroyed = 0 }) frames),
-      subst (λ n. IfSome ((g.H.Host.state c.loop-done.host).port Video) (λ port. port ≡ fronted show n)) done c.loop-done.invariant.so_far,
-    )
+    let frames : c.args.show.now.output.last.0 - c.args.show.now.output.first.0 + 1 ≡ count = omega arith in
+    plays_done show c.requires.played.silent a l c.all.result
+    (full_is show count loads c.all.result (c.loop-done.invariant.exact ∙ ap (loads_to show) done) (c.all.ensures ∙ ap (λ n. record { frames = n; loads = loads; handed = n; taken = n; destroyed = 0 }) frames))
+    (subst (λ n. IfSome (l.port Video) (λ port. port ≡ fronted show Video show.output.video n)) done c.loop-done.invariant.so_far)
+
+pub returns-clause-keeps : goal.returns-clause-keeps
+returns-clause-keeps g c =
+    let show = meant c.args.show.now c.args.table.now in let silent = c.requires.played.silent in
+    let a = g.H.Host.state c.args.host.now in let l = g.H.Host.state c.loop-done.host in
+    let only = c.loop-done.invariant.rest in
+    keeps_else show silent a l (Done c.all.result) only (same_faults show silent a l only c.loop-done.invariant.counted) c.loop-done.invariant.created

@@ -1,5 +1,6 @@
 use Rattle.std.proofs.Common.{◌≡◌, ◌≤◌, IfSome}
 use Rattle.mlt_base.specs.declared.port.Port.TheVariants.{Video}
+use Rattle.mlt_host.specs.Count.{next}
 use Rattle.mlt_host.specs.Host.{OnlyPort}
 use Rattle.mlt_pool.specs.Class.{class_of}
 use Rattle.mlt_pool.specs.Counts.{home_of, all_lent}
@@ -9,14 +10,16 @@ use Rattle.mlt_tree.specs.Show.{loads_to}
 use Rattle.melt_run.specs.Play.{fronted}
 use Rattle.melt_run.proofs.play.play_frames.Given as goal
 
--- Video has exactly the positions so far, their pictures are counted, and the block is home again
+-- Video was created once and has exactly the positions so far, their pictures are counted, no fault was, and the block
+-- is home again
 abbrev pub invariant-loop-done : goal.invariant-loop-done
 invariant-loop-done g l = record {
   home : home_of l.pool (class_of (piece_of l.show.output l.show.profile)) ≡ home_of l.fn.pool (class_of (piece_of l.show.output l.show.profile));
   lent : all_lent l.pool ≡ all_lent l.fn.pool;
-  so_far : IfSome ((g.H.Host.state l.host).port Video) (λ port. port ≡ fronted (meant l.show l.table) l.done);
+  so_far : IfSome ((g.H.Host.state l.host).port Video) (λ port. port ≡ fronted (meant l.show l.table) Video l.show.output.video l.done);
   exact : l.loads ≡ loads_to (meant l.show l.table) l.done;
   few : l.loads ≤ l.done;
-  never_falls : (g.H.Host.state l.fn.host).faults Video ≤ (g.H.Host.state l.host).faults Video;
+  counted : (g.H.Host.state l.host).faults Video ≡ (g.H.Host.state l.fn.host).faults Video;
+  created : (g.H.Host.state l.host).creates Video ≡ next ((g.H.Host.state l.fn.host).creates Video);
   rest : OnlyPort Video (g.H.Host.state l.fn.host) (g.H.Host.state l.host);
 }

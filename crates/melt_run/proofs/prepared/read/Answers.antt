@@ -1,4 +1,5 @@
 use Rattle.std.proofs.Common.{length, sym, subst}
+use Rattle.mlt_tree.specs.Loading.{plainly, ◌>>=◌}
 use Rattle.mlt_tree.specs.Reading.{job_of, groups_read}
 use Rattle.mlt_tree.proofs.Allowed.{groups_sound}
 use Rattle.mlt_tree.proofs.Counts.{words_counted}
@@ -10,6 +11,6 @@ pub job-requires : goal.job-requires
 job-requires g c = groups_sound (texts c.args.words.now) c.in-Ok.list c.in-Ok.ensures
 
 pub returns-in-Ok-clause-reads : goal.returns-in-Ok-clause-reads
-returns-in-Ok-clause-reads g c =
+returns-in-Ok-clause-reads g c = λ files.
     let words = texts c.args.words.now in
-    subst (λ read. Reads c.job.result (groups_read (length words) read)) (sym c.in-Ok.ensures) (subst (λ count. Reads c.job.result (job_of count c.in-Ok.list)) (words_counted words c.in-Ok.list c.in-Ok.ensures) c.job.ensures.reads)
+    subst (λ gs. Reads c.job.result (plainly (groups_read gs) >>= job_of files (length words))) (sym c.in-Ok.ensures) (subst (λ count. Reads c.job.result (job_of files count c.in-Ok.list)) (words_counted words c.in-Ok.list c.in-Ok.ensures) (c.job.ensures.reads files))

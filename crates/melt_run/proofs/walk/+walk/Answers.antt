@@ -1,16 +1,16 @@
 use Rattle.std.proofs.Common.{◌≡◌, ◌+◌, ◌-◌, drop, All, None, rules, arith, sym, ap, ◌∙◌, subst}
 use Rattle.mlt_tree.specs.Ranges.{IsEntry}
-use Rattle.mlt_tree.specs.Tree.{Pictures, mean, numbers}
 use Rattle.mlt_tree.specs.Units.{IsEntryBelow, IsTrackBelow, tree_of}
 use Rattle.mlt_graph.proofs.Trees.{tree_of-step}
 use Rattle.melt_run.specs.Found.{shown_of}
-use Rattle.melt_run.proofs.Walked.{seen_in, seen_of, found, rows_highest}
+use Rattle.melt_run.specs.Seen.{seen}
+use Rattle.melt_run.proofs.Walked.{seen_parts, seen_of, found, rows_highest}
 use Rattle.melt_run.proofs.walk.+walk.Goals as goal
 
 pub of_body-of_tracks-requires : goal.of_body-of_tracks-requires
 of_body-of_tracks-requires t c =
     let members = rw c.in-Tractor.is at c.requires.body_below in
-    (search rules, (c.requires.graph, (c.requires.known, subst (All (IsTrackBelow c.args.below)) (sym c.as_slice-in-Tractor.ensures) members.0)))
+    (search rules, (c.requires.graph, (c.requires.known, subst (All (IsTrackBelow c.args.below)) (sym c.as_slice-in-Tractor.ensures) members.tracks_below)))
 
 pub of_entries-of_entry-requires : goal.of_entries-of_entry-requires
 of_entries-of_entry-requires t c =
@@ -23,12 +23,12 @@ of_entries-of_entry-requires t c =
 pub of_entries-returns-in-Some : goal.of_entries-returns-in-Some
 of_entries-returns-in-Some t c =
     let units = tree_of c.args.units.now in
-    c.of_entry.ensures ∙ sym (seen_in units c.args.entries.now c.args.at ∙ ap (seen_of units) (sym c.in-Some.ensures))
+    c.of_entry.ensures ∙ sym (seen_parts units c.args.entries.now c.args.at ∙ ap (seen_of units) (sym c.in-Some.ensures))
 
 pub of_entries-returns-in-None : goal.of_entries-returns-in-None
 of_entries-returns-in-None t c =
     let units = tree_of c.args.units.now in
-    sym (seen_in units c.args.entries.now c.args.at ∙ ap (seen_of units) (sym c.in-None.ensures))
+    sym (seen_parts units c.args.entries.now c.args.at ∙ ap (seen_of units) (sym c.in-None.ensures))
 
 pub of_tracks-of_track-requires : goal.of_tracks-of_track-requires
 of_tracks-of_track-requires t c =
@@ -47,4 +47,4 @@ of_tracks-returns-in-Some t c =
 
 pub of_unit-returns : goal.of_unit-returns
 of_unit-returns t c =
-    c.of_body.ensures ∙ sym (ap (λ tree. mean Pictures numbers tree c.args.at) (tree_of-step c.args.units.now c.args.unit c.index-units-unit.result c.requires.graph c.requires.there c.index-units-unit.is))
+    c.of_body.ensures ∙ sym (ap (λ tree. seen tree c.args.at) (tree_of-step c.args.units.now c.args.unit c.index-units-unit.result c.requires.graph c.requires.there c.index-units-unit.is))

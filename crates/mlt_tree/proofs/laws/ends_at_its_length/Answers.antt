@@ -1,4 +1,4 @@
-use Rattle.mlt_tree.specs.Tree.{Pictures, Sounds}
+use Rattle.mlt_tree.specs.Medium.{Pictures, Sounds}
 use Rattle.mlt_tree.proofs.Past.{past, needs_past}
 use Rattle.mlt_tree.proofs.laws.ends_at_its_length.Goals as goal
 

@@ -1,0 +1,19 @@
+-- What a producer's word asks for and makes, as the definitions see it.
+use Rattle.mlt_tree.specs.Clips as meaning
+use Rattle.melt_build.specs.declared.wanted.Origin.{Origin}
+use Rattle.melt_build.specs.declared.wanted.Origin.TheVariants.{Colour}
+use Rattle.melt_build.specs.declared.wanted.Product.{Product}
+use Rattle.melt_build.specs.declared.wanted.Wanted.{Wanted}
+use Rattle.melt_build.specs.declared.state.Made.{Made}
+use Rattle.melt_build.specs.Sources.{pixel}
+use Rattle.melt_build.specs.State.{made_view}
+
+abbrev pub origin_view : Origin → meaning.Origin
+origin_view (Colour colour) = meaning.OfColour (pixel colour)
+
+abbrev pub wanted_view : Wanted → meaning.Wanted
+wanted_view asked = record { first = asked.first; last = asked.last; length = asked.length }
+
+-- among all that was made so far
+abbrev pub product_view : Made → Product → meaning.Product
+product_view made product = record { made = made_view made; unit = product.unit.0; frames = product.frames }

@@ -1,0 +1,207 @@
+//! Producers: what a word asks for, what it makes, and the clip of that at the track's end.
+
+ghost use Rattle.std.specs.Prelude.{◌≡◌, ◌≤◌, ◌<◌, ◌+◌, ◌-◌, ◌^◌, length, IfOk, IfSome, OnOk};
+ghost use Rattle.mlt_base.specs.Try.{TryGives};
+ghost use Rattle.mlt_tree.specs.Clips as meaning;
+ghost use Rattle.mlt_tree.specs.Clips.{OfColour};
+ghost use Rattle.mlt_tree.specs.Composing as composing;
+ghost use Rattle.mlt_tree.specs.Composition.{Frames, State as StateOf, props_of};
+ghost use Rattle.mlt_tree.specs.Loading.{Files};
+ghost use Rattle.mlt_tree.specs.declared.group.Group.{Group as GroupOf};
+ghost use Rattle.mlt_graph.specs.Show.{fraction};
+ghost use Rattle.melt_build.specs.Clips.{origin_view, wanted_view, product_view};
+ghost use Rattle.melt_build.specs.Given.{props_in};
+ghost use Rattle.melt_build.specs.Reads.{Takes, ReadGives};
+ghost use Rattle.melt_build.specs.Service.{named_view};
+ghost use Rattle.melt_build.specs.Sources.{pixel, source_of};
+ghost use Rattle.melt_build.specs.State.{IsComposed, IsMade, made_view, state_view, cut_view};
+
+use crate::colours::colour_named;
+use crate::edits::edited;
+use crate::object::Object;
+use crate::props::Given;
+use crate::service::{Named, Service, colour_text, producer};
+use crate::sources::Colour;
+use crate::state::{Made, State};
+use crate::wanted::{Cut, Origin, Product, Wanted};
+use mlt_base::{Pos, Rate, Span, Try};
+use mlt_tree::{Cause, Entry, FilterList, Group, Refusal, SourceKind};
+use std::alloc::{AllocError, Global};
+
+/// From the first frame to the last, which is the source's where none is given.
+pub(crate) fn cut_of(place: u32, length: u32, first: u32, out: Option<u32>) -> Result<Cut, Refusal>
+    requires { 1 ≤ length }
+    ensures value { Takes cut_view result (meaning.cut_of place length first out) }
+    ensures ordered { IfOk result (λ c. (c.first ≤ c.last) × (c.last < length)) }
+{
+    let last = out.unwrap_or(length - 1);
+    if first <= last && last < length {
+        Ok(Cut { first, last })
+    } else {
+        Err(Refusal::at(
+            place,
+            Cause::BadRange {
+                first,
+                last,
+                length,
+            },
+        ))
+    }
+}
+
+/// The value of a service.
+fn origin_of(place: u32, named: Named<'_>) -> Result<Origin, Refusal>
+    ensures { Takes origin_view result (meaning.origin_of place (named_view named.entry)) }
+{
+    match named.service {
+        Service::Colour => match colour_named(colour_text(named.arg)) {
+            Some(colour) => Ok(Origin::Colour(colour)),
+            None => Err(Refusal::at(place, Cause::BadValue)),
+        },
+        Service::Picture => Err(Refusal::at(place, Cause::Unsupported)),
+        Service::Sound => Err(Refusal::at(place, Cause::Unsupported)),
+        Service::Melt => Err(Refusal::at(place, Cause::Unsupported)),
+    }
+}
+
+/// The colour that is named.
+fn colour_of(origin: Origin) -> Colour
+    ensures { origin_view origin ≡ OfColour (pixel result) }
+{
+    match origin {
+        Origin::Colour(colour) => colour,
+    }
+}
+
+/// The length of a source: what is asked for, else its own, or as far as the clip goes where that is more.
+fn length_by(own: u32, last: Option<u32>, length: Option<u32>) -> u32
+    requires own { (1 ≤ own) × (own < 2 ^ 31) }
+    requires last { IfSome last (λ n. n < 2 ^ 31) }
+    requires length { IfSome length (λ n. (1 ≤ n) × (n < 2 ^ 31)) }
+    ensures value { result ≡ meaning.length_by own last length }
+    ensures range { (1 ≤ result) × (result < 2 ^ 31) }
+{
+    match length {
+        Some(length) => length,
+        None => match last {
+            None => own,
+            Some(last) => own.max(last + 1).min(2147483647),
+        },
+    }
+}
+
+impl Given<'_, '_> {
+    /// The frames and the length that the properties ask for.
+    #[tactic(auto, unfolding(mlt_tree::specs::Clips::wanted_by))]
+    fn wanted_by(&self, rate: Rate) -> Result<Wanted, Refusal>
+        ensures { (s : StateOf) (group : GroupOf) → props_of s group ≡ props_in self.now → s.frames.rate ≡ fraction rate →
+            Takes wanted_view result (meaning.wanted_by s group) }
+    {
+        let first = self.time_or_first("in", rate)?;
+        let last = self.time("out", rate)?;
+        let length = self.count("length", 1, 2147483647)?;
+        Ok(Wanted {
+            first,
+            last,
+            length,
+        })
+    }
+}
+
+impl Made {
+    /// A source of a colour and its unit, which have the next numbers.
+    fn source_made(&mut self, colour: Colour, asked: Wanted) -> Result<Product, AllocError>
+        requires { IsMade self.old }
+        ensures value { (frames : Frames) → IfOk result (λ product. product_view self.new product ≡
+            meaning.source_made frames (made_view self.old) (source_of colour) (wanted_view asked)) }
+        ensures made { OnOk result (IsMade self.new) }
+        ensures more { length self.old.graph ≤ length self.new.graph }
+        ensures there { IfOk result (λ product. product.unit.0 < length self.new.graph) }
+        ensures frames { IfOk result (λ product. (1 ≤ product.frames) × (product.frames < 2 ^ 31)) }
+    {
+        let frames = length_by(15000, asked.last, asked.length);
+        let source = self.table.add_colour(colour)?;
+        let unit = self.graph.add_source(source, SourceKind::Colour, frames)?;
+        Ok(Product { unit, frames })
+    }
+
+    /// What a producer makes.
+    fn product_of(&mut self, origin: Origin, asked: Wanted) -> Result<Product, Try<Refusal>>
+        requires { IsMade self.old }
+        ensures value { (files : Files) (s : StateOf) (group : GroupOf) → s.made ≡ made_view self.old →
+            ReadGives (product_view self.new) result (composing.product_of files s group (origin_view origin) (wanted_view asked)) }
+        ensures made { OnOk result (IsMade self.new) }
+        ensures more { length self.old.graph ≤ length self.new.graph }
+        ensures there { IfOk result (λ product. product.unit.0 < length self.new.graph) }
+        ensures frames { IfOk result (λ product. (1 ≤ product.frames) × (product.frames < 2 ^ 31)) }
+    {
+        match self.source_made(colour_of(origin), asked) {
+            Ok(product) => Ok(product),
+            Err(_) => Err(Try::Memory),
+        }
+    }
+}
+
+impl State<'_> {
+    /// The clip of what was made, at the track's end.
+    #[tactic(auto, unfolding(mlt_tree::specs::Clips::clip_added))]
+    fn clip_added(
+        &mut self,
+        alloc: Global,
+        group: &Group,
+        product: Product,
+        asked: Wanted,
+    ) -> Result<(), Try<Refusal>>
+        requires composed { IsComposed self.old }
+        requires there { product.unit.0 < length self.old.made.graph }
+        requires frames { 1 ≤ product.frames }
+        ensures value { TryGives (λ _. state_view self.new) result
+            (meaning.clip_added (state_view self.old) group.now (product_view self.old.made product) (wanted_view asked)) }
+        ensures composed { OnOk result (IsComposed self.new) }
+    {
+        let cut = cut_of(group.place, product.frames, asked.first, asked.last)?;
+        let span = Span {
+            first: Pos(cut.first),
+            last: Pos(cut.last),
+        };
+        let entry = Entry::Clip {
+            unit: product.unit,
+            span,
+            filters: FilterList::new(alloc),
+        };
+        edited(group.place, self.level.last().append(entry))
+    }
+
+    /// A producer: what its value names, the range, what it makes, and the clip of that.
+    pub(crate) fn producer(
+        &mut self,
+        alloc: Global,
+        group: &Group,
+        own: &Object<'_>,
+    ) -> Result<(), Try<Refusal>>
+        requires composed { IsComposed self.old }
+        requires own { own.now.words.now ≡ group.now.props }
+        ensures value { (files : Files) → ReadGives (λ _. state_view self.new) result (composing.producer files (state_view self.old) group.now) }
+        ensures composed { OnOk result (IsComposed self.new) }
+    {
+        let Some(named) = producer(group.arg.as_str()) else {
+            return Err(Try::Fault(Refusal::at(group.place, Cause::UnknownService)));
+        };
+        let origin = match origin_of(group.place, named) {
+            Ok(origin) => origin,
+            Err(refusal) => return Err(Try::Fault(refusal)),
+        };
+        let given = Given {
+            inherited: &self.inherited,
+            own,
+        };
+        let asked = match given.wanted_by(self.profile.rate) {
+            Ok(asked) => asked,
+            Err(refusal) => return Err(Try::Fault(refusal)),
+        };
+        match self.made.product_of(origin, asked) {
+            Ok(product) => self.clip_added(alloc, group, product, asked),
+            Err(refusal) => Err(refusal),
+        }
+    }
+}

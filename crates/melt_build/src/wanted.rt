@@ -1,0 +1,37 @@
+//! What a producer's word asks for, and what it has made.
+
+ghost use Rattle.std.specs.Prelude.{ℕ, ◌≤◌, ◌<◌, ◌^◌, IfSome};
+ghost use Rattle.std.proofs.Props.{props};
+
+use crate::sources::Colour;
+use mlt_base::UnitId;
+
+/// The first and the last frame of a cut.
+#[derive(Clone, Copy)]
+pub(crate) struct Cut {
+    pub first: u32,
+    pub last: u32,
+}
+
+/// What a producer's value names.
+#[derive(Clone, Copy)]
+pub(crate) enum Origin {
+    Colour(Colour),
+}
+
+/// The frames that a producer's properties ask for, and how long its source is to be.
+#[derive(Clone, Copy)]
+pub(crate) struct Wanted {
+    pub first: u32,
+    pub last: Option<u32>,
+    pub length: Option<u32>,
+    pub ghost last_short: { IfSome last (λ n. n < 2 ^ 31) } by { Prim.hlevel props },
+    pub ghost length_range: { IfSome length (λ n. (1 ≤ n) × (n < 2 ^ 31)) } by { Prim.hlevel props },
+}
+
+/// The unit that a producer has made, and how many frames it has.
+#[derive(Clone, Copy)]
+pub(crate) struct Product {
+    pub unit: UnitId,
+    pub frames: u32,
+}

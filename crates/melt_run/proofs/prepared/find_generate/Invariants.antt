@@ -1,8 +1,0 @@
-use Rattle.std.proofs.Common.{◌≡◌, drop}
-use Rattle.std.specs.Prelude.{find}
-use Rattle.mlt_tree.specs.Reading.{is_generate}
-use Rattle.melt_run.proofs.prepared.find_generate.Given as goal
-
--- none so far
-abbrev pub invariant-loop-group : goal.invariant-loop-group
-invariant-loop-group l = find is_generate (drop l.group-index l.groups) ≡ find is_generate l.groups

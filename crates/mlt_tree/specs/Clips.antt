@@ -1,0 +1,94 @@
+-- Producers: what a word has made, and the clip of it at the track's end.
+use Rattle.std.specs.Prelude.{ℕ, ◌+◌, ◌-◌, ◌&&◌, nat_le, nat_lt, max, min, if◌then◌else◌, [], ◌∷◌, ◌++◌, length, Option, None, Some, unwrap_or, Result, Ok, codes}
+use Rattle.mlt_base.specs.Colour.{Pixel, colour_of}
+use Rattle.mlt_base.specs.Steps.{◌>>=◌}
+use Rattle.mlt_tree.specs.declared.group.Group.{Group}
+use Rattle.mlt_tree.specs.declared.refusal.Cause.TheVariants as cause
+use Rattle.mlt_tree.specs.declared.refusal.Refusal.{Refusal}
+use Rattle.mlt_tree.specs.Composition.{Frames, Made, State, props_of, track, with_track}
+use Rattle.mlt_tree.specs.Edits as edit
+use Rattle.mlt_tree.specs.Edits.{clip}
+use Rattle.mlt_tree.specs.Props.{last_named, read_prop, read_given, counted, timed}
+use Rattle.mlt_tree.specs.Refusing.{refuse, known, at_group}
+use Rattle.mlt_tree.specs.Services.{Named, Service, ColourService, PictureFile, SoundFile, MeltFile, colour_name}
+use Rattle.mlt_tree.specs.Show.{Source, Plain, kind_of}
+use Rattle.mlt_tree.specs.Units.{source_unit}
+
+-- the first and last frame of a cut
+pub record Cut : Type 0 where
+  pub first : ℕ
+  pub last : ℕ
+
+-- from the first frame to the last, which is the source's where none is given
+abbrev pub cut_of : ℕ → ℕ → ℕ → Option ℕ → Result Cut Refusal
+cut_of place length first out =
+    let last = unwrap_or out (length - 1) in
+    if nat_le first last && nat_lt last length then Ok (record { first = first; last = last })
+    else refuse place (cause.BadRange first last length)
+
+-- ---- what a producer's word asks for
+
+-- what its value names
+pub data Origin : Type 0 where
+  OfColour : Pixel → Origin
+
+-- the value of a service
+abbrev pub origin_of : ℕ → Named → Result Origin Refusal
+origin_of place named = by named.service where
+  by : Service → Result Origin Refusal
+  by ColourService = known place cause.BadValue (colour_of (colour_name named.arg)) >>= λ pixel. Ok (OfColour pixel)
+  by PictureFile = refuse place cause.Unsupported
+  by SoundFile = refuse place cause.Unsupported
+  by MeltFile = refuse place cause.Unsupported
+
+-- the first frame and the last, and the length
+pub record Wanted : Type 0 where
+  pub first : ℕ
+  pub last : Option ℕ
+  pub length : Option ℕ
+
+unfoldable pub wanted_by : State → Group → Result Wanted Refusal
+wanted_by s g = do
+  first ← read_prop (timed s.frames.rate) 0 (last_named (codes "in") (props_of s g))
+  last ← read_given (timed s.frames.rate) (last_named (codes "out") (props_of s g))
+  length ← read_given (counted 1 2147483647) (last_named (codes "length") (props_of s g))
+  Ok (record { first = first; last = last; length = length })
+
+-- ---- what it makes
+
+-- the unit that is cut from, with how many frames it has, among all that was made so far
+pub record Product : Type 0 where
+  pub made : Made
+  pub unit : ℕ
+  pub frames : ℕ
+
+-- the length of a source by itself
+abbrev pub own_length : Frames → Source → ℕ
+own_length frames (Plain pixel) = 15000
+
+-- the length of a source: what is asked for, else its own, or as far as the clip goes where that is more
+abbrev pub length_by : ℕ → Option ℕ → Option ℕ → ℕ
+length_by own last (Some length) = length
+length_by own None None = own
+length_by own (Some last) None = min (max own (last + 1)) 2147483647
+
+-- a source and its unit, which have the next numbers
+abbrev pub with_source : Made → Source → ℕ → Made
+with_source made source frames = record made {
+  units = made.units ++ source_unit (record { 0 = length made.sources }) (kind_of source) frames ∷ [];
+  sources = made.sources ++ source ∷ [];
+}
+
+abbrev pub source_made : Frames → Made → Source → Wanted → Product
+source_made frames made source asked =
+    let length_asked = length_by (own_length frames source) asked.last asked.length in
+    record { made = with_source made source length_asked; unit = length made.units; frames = length_asked }
+
+-- ---- the clip of it
+
+-- at the track's end
+unfoldable pub clip_added : State → Group → Product → Wanted → Result State Refusal
+clip_added s g product asked = do
+  cut ← cut_of g.place product.frames asked.first asked.last
+  done ← at_group g.place (edit.append (clip product.unit cut.first cut.last []) (track s))
+  Ok (record (with_track s done.1) { made = product.made })

@@ -1,0 +1,78 @@
+-- From groups to what is played: what is not built first, then the profile, then the groups in word order.
+use Rattle.std.specs.Prelude.{ℕ, List}
+use Rattle.mlt_tree.specs.declared.group.Group.{Group}
+use Rattle.mlt_tree.specs.declared.group.GroupKind.{GroupKind}
+use Rattle.mlt_tree.specs.declared.group.GroupKind.TheVariants as kind
+use Rattle.mlt_tree.specs.declared.refusal.Cause.TheVariants as cause
+use Rattle.mlt_tree.specs.Clips.{Origin, OfColour, Wanted, Product, origin_of, wanted_by, source_made, clip_added}
+use Rattle.mlt_tree.specs.Composition.{State, start, blank, join, remove, repeat, split, swap, consumer, inherit}
+use Rattle.mlt_tree.specs.Loading.{Files, Read, done, plainly, through, ◌>>=◌}
+use Rattle.mlt_tree.specs.Refusing.{refuse, known}
+use Rattle.mlt_tree.specs.Sealing.{framed, seal}
+use Rattle.mlt_tree.specs.Services.{producer_of}
+use Rattle.mlt_tree.specs.Show.{Show, Plain}
+
+-- what a producer makes; only files are looked up
+abbrev pub product_of : Files → State → Group → Origin → Wanted → Read Product
+product_of files s g (OfColour pixel) asked = done (source_made s.frames s.made (Plain pixel) asked)
+
+-- a producer: the service, its value, the range, what it makes, and the clip of that
+unfoldable pub producer : Files → State → Group → Read State
+producer files s g = do
+  named ← plainly (known g.place cause.UnknownService (producer_of g.arg))
+  from ← plainly (origin_of g.place named)
+  asked ← plainly (wanted_by s g)
+  made ← product_of files s g from asked
+  plainly (clip_added s g made asked)
+
+-- what a group does; an option that is not built is refused before
+unfoldable pub effect : Files → State → Group → Read State
+effect files s g = by g.kind where
+  later : Read State
+  later = plainly (refuse g.place cause.Unsupported)
+
+  by : GroupKind → Read State
+  by kind.Producer = producer files s g
+  by kind.Attach = later
+  by kind.AttachCut = later
+  by kind.AttachClip = later
+  by kind.AttachTrack = later
+  by kind.Filter = later
+  by kind.Transition = later
+  by kind.Blank = plainly (blank s g)
+  by kind.Group = plainly (inherit s g)
+  by kind.Join = plainly (join s g)
+  by kind.Mix = later
+  by kind.Mixer = later
+  by kind.Remove = plainly (remove s g)
+  by kind.Repeat = plainly (repeat s g)
+  by kind.Split = plainly (split s g)
+  by kind.Swap = plainly (swap s g)
+  by kind.Track = later
+  by kind.HideVideo = later
+  by kind.AudioTrack = later
+  by kind.HideAudio = later
+  by kind.VideoTrack = later
+  by kind.HideTrack = later
+  by kind.NullTrack = later
+  by kind.Profile = done s
+  by kind.Consumer = plainly (consumer s g)
+  by kind.Serialise = done s
+  by kind.Query = done s
+  by kind.Version = done s
+  by kind.Generate = done s
+  by kind.Quiet = done s
+  by kind.Silent = done s
+  by kind.Progress = done s
+  by kind.Verbose = done s
+  by kind.Debug = done s
+  by kind.Getc = done s
+  by kind.Timings = done s
+  by kind.Abort = done s
+
+unfoldable pub composed : Files → ℕ → List Group → Read State
+composed files count gs = plainly (framed gs) >>= λ frames. through (effect files) (start frames count) gs
+
+-- the show of the groups of so many words
+unfoldable pub show_of : Files → ℕ → List Group → Read Show
+show_of files count gs = composed files count gs >>= λ s. plainly (seal count s)
