@@ -2,10 +2,11 @@
 use Rattle.std.proofs.Common.{ℕ, ◌≡◌, ◌+◌, Bool, true, false, cond, List, [], ◌∷◌, map, fold, Option, None, Some, refl, ap, sym, ◌∙◌, arith}
 use Rattle.std.proofs.lemmas.Grind.{fold-append}
 use Rattle.std.specs.List.{flat_map}
+use Rattle.mlt_base.specs.Name.{name_of}
 use Rattle.mlt_tree.specs.declared.group.Group.{Group}
 use Rattle.mlt_tree.specs.declared.group.Prop.{Prop}
 use Rattle.mlt_tree.specs.declared.table.Row.{Row}
-use Rattle.mlt_tree.specs.Table.{row_of, name_of}
+use Rattle.mlt_tree.specs.Table.{row_of}
 use Rattle.mlt_tree.specs.GroupWords.{prop_word, own_words_by, own_words, words_of, words_in}
 use Rattle.mlt_tree.proofs.Counts.{behind_words}
 use Rattle.melt_build.specs.WordCount.{behind, has_argument, behind_group}
@@ -17,7 +18,7 @@ of_props n (prop ∷ props) = of_props (behind n prop.place) props
 of_own : (n : ℕ) (g : Group) (row : Option Row) → behind n (cond (has_argument row) (g.place + 1) g.place) ≡ behind_words n (own_words_by g row)
 of_own n g None = refl
 of_own n g (Some row) = by row.argument where
-  by : (b : Bool) → behind n (cond b (g.place + 1) g.place) ≡ behind_words n ((g.place, name_of row) ∷ (cond b ((g.place + 1, g.arg) ∷ []) []))
+  by : (b : Bool) → behind n (cond b (g.place + 1) g.place) ≡ behind_words n ((g.place, name_of row.name) ∷ (cond b ((g.place + 1, g.arg) ∷ []) []))
   by true = omega arith
   by false = refl
 

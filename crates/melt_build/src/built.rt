@@ -6,8 +6,8 @@ ghost use Rattle.mlt_tree.specs.Unbuilt.{is_later_prop, is_colour, producer_buil
 ghost use Rattle.mlt_tree.specs.Services.{producer_of, raw_of};
 ghost use Rattle.mlt_tree.specs.Refusing.{over};
 
-use crate::service::{Service, producer, raw};
-use mlt_tree::{Cause, Group, GroupKind, Prop, Refusal};
+use crate::service::{producer_of, raw_of};
+use mlt_tree::{Cause, Group, GroupKind, Producer, Prop, Refusal};
 
 fn comes_later(prop: &Prop) -> bool
     ensures { result ≡ is_later_prop prop.now }
@@ -31,13 +31,13 @@ fn later_prop(props: &[Prop]) -> Option<&Prop>
 fn names_colour(word: &str) -> bool
     ensures { result ≡ is_colour (producer_of word.now) }
 {
-    match producer(word) {
+    match producer_of(word) {
         None => true,
-        Some(named) => match named.service {
-            Service::Colour => true,
-            Service::Picture => false,
-            Service::Sound => false,
-            Service::Melt => false,
+        Some(named) => match named.producer {
+            Producer::Colour => true,
+            Producer::Picture => false,
+            Producer::Sound => false,
+            Producer::Melt => false,
         },
     }
 }
@@ -56,7 +56,7 @@ fn producer_is_built(group: &Group) -> Result<(), Refusal>
 fn props_are_built(group: &Group) -> Result<(), Refusal>
     ensures { result ≡ props_built group.now (raw_of group.now.arg) }
 {
-    match raw(group.arg.as_str()) {
+    match raw_of(group.arg.as_str()) {
         None => Ok(()),
         Some(_) => match later_prop(group.props.as_slice()) {
             None => Ok(()),

@@ -20,12 +20,12 @@ use crate::colours::colour_named;
 use crate::edits::edited;
 use crate::object::Object;
 use crate::props::Given;
-use crate::service::{Named, Service, colour_text, producer};
+use crate::service::{Named, colour_name, producer_of};
 use crate::sources::Colour;
 use crate::state::{Made, State};
 use crate::wanted::{Cut, Origin, Product, Wanted};
 use mlt_base::{Pos, Rate, Span, Try};
-use mlt_tree::{Cause, Entry, FilterList, Group, Refusal, SourceKind};
+use mlt_tree::{Cause, Entry, FilterList, Group, Producer, Refusal, SourceKind, services as row};
 use std::alloc::{AllocError, Global};
 
 /// From the first frame to the last, which is the source's where none is given.
@@ -53,14 +53,14 @@ pub(crate) fn cut_of(place: u32, length: u32, first: u32, out: Option<u32>) -> R
 fn origin_of(place: u32, named: Named<'_>) -> Result<Origin, Refusal>
     ensures { Takes origin_view result (meaning.origin_of place (named_view named.entry)) }
 {
-    match named.service {
-        Service::Colour => match colour_named(colour_text(named.arg)) {
+    match named.producer {
+        Producer::Colour => match colour_named(colour_name(named.arg)) {
             Some(colour) => Ok(Origin::Colour(colour)),
             None => Err(Refusal::at(place, Cause::BadValue)),
         },
-        Service::Picture => Err(Refusal::at(place, Cause::Unsupported)),
-        Service::Sound => Err(Refusal::at(place, Cause::Unsupported)),
-        Service::Melt => Err(Refusal::at(place, Cause::Unsupported)),
+        Producer::Picture => Err(Refusal::at(place, Cause::Unsupported)),
+        Producer::Sound => Err(Refusal::at(place, Cause::Unsupported)),
+        Producer::Melt => Err(Refusal::at(place, Cause::Unsupported)),
     }
 }
 
@@ -97,9 +97,9 @@ impl Given<'_, '_> {
         ensures { (s : StateOf) (group : GroupOf) → props_of s group ≡ props_in self.now → s.frames.rate ≡ fraction rate →
             Takes wanted_view result (meaning.wanted_by s group) }
     {
-        let first = self.time_or_first("in", rate)?;
-        let last = self.time("out", rate)?;
-        let length = self.count("length", 1, 2147483647)?;
+        let first = self.moment_or_first(&row::IN, rate)?;
+        let last = self.moment(&row::OUT, rate)?;
+        let length = self.number(&row::LENGTH)?;
         Ok(Wanted {
             first,
             last,
@@ -184,7 +184,7 @@ impl State<'_> {
         ensures value { (files : Files) → ReadGives (λ _. state_view self.new) result (composing.producer files (state_view self.old) group.now) }
         ensures composed { OnOk result (IsComposed self.new) }
     {
-        let Some(named) = producer(group.arg.as_str()) else {
+        let Some(named) = producer_of(group.arg.as_str()) else {
             return Err(Try::Fault(Refusal::at(group.place, Cause::UnknownService)));
         };
         let origin = match origin_of(group.place, named) {

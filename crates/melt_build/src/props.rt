@@ -1,20 +1,19 @@
 //! The values of properties: of several with one name the last counts, and a fault is at its own word.
 
-ghost use Rattle.std.specs.Prelude.{◌≡◌, ◌≤◌, ◌<◌, ◌^◌, ◌++◌, ℕ, length, IfOk, IfSome, IsSome, fold};
+ghost use Rattle.std.specs.Prelude.{◌≡◌, ◌≤◌, ◌<◌, ◌^◌, ◌++◌, ℕ, length, IfOk, IfSome, IsSome, IsTrue, fold};
 ghost use Rattle.std.specs.Option.{option_copied};
-ghost use Rattle.mlt_tree.specs.Composition.{pix_named};
-ghost use Rattle.mlt_tree.specs.Props.{later as later_of, last_named, read_prop, read_given, counted as counted_of, sized as sized_of, timed as timed_of, within as within_of, size_within};
+ghost use Rattle.mlt_base.specs.Name.{is_spelled};
+ghost use Rattle.mlt_tree.specs.Props as meaning;
+ghost use Rattle.mlt_tree.specs.Props.{later as later_of, last_named, counted as counted_of, sized as sized_of, timed as timed_of, within as within_of, size_within, chosen as chosen_of};
 ghost use Rattle.mlt_tree.specs.Refusing.{refusal_at as refusal_of};
-ghost use Rattle.mlt_tree.specs.Show.{Rgb};
-ghost use Rattle.mlt_graph.specs.Show.{fraction, pix_of};
+ghost use Rattle.mlt_graph.specs.Show.{fraction};
 ghost use Rattle.melt_build.specs.Given.{props_in};
 ghost use Rattle.melt_build.specs.Object.{text_in};
-ghost use Rattle.melt_build.specs.Reads.{at_place, Takes};
+ghost use Rattle.melt_build.specs.Reads.{at_place};
 
 use crate::object::Object;
 use mlt_base::{Rate, read_time, read_whole};
-use mlt_graph::Pix;
-use mlt_tree::{Cause, Prop, Refusal};
+use mlt_tree::{Cause, Choice, Count, Moment, Number, Prop, Refusal, Size};
 
 /// This property where it has the name, else the one found before.
 fn later<'a>(found: Option<&'a Prop>, prop: &'a Prop, name: &str) -> Option<&'a Prop>
@@ -115,14 +114,17 @@ pub(crate) fn timed(rate: Rate, text: &str) -> Result<u32, Cause>
     }
 }
 
-/// How the pixels are written, by its name.
-fn pix_by_name(text: &str) -> Result<Pix, Cause>
-    ensures { (place : ℕ) → Takes pix_of (at_place place result) (pix_named place text.now) }
+/// Whether a text is the second of a row's words.
+fn chosen(row: &Choice, text: &str) -> Result<bool, Cause>
+    ensures { (place : ℕ) → at_place place result ≡ chosen_of row.now place text.now }
 {
-    match text {
-        "rgb" => Ok(Pix::Rgb),
-        "rgba" => Ok(Pix::Rgba),
-        _ => Err(Cause::BadValue),
+    let bytes = text.as_bytes();
+    if bytes == row.first.as_bytes() {
+        Ok(false)
+    } else if bytes == row.second.as_bytes() {
+        Ok(true)
+    } else {
+        Err(Cause::BadValue)
     }
 }
 
@@ -134,6 +136,7 @@ pub(crate) struct Given<'b, 'a> {
 }
 
 impl Given<'_, '_> {
+    /// The text of a name, where there is one.
     fn text(&self, name: &str) -> Option<&str>
         requires { 0 < length name.now }
         ensures { option_copied result ≡ text_in name.now (props_in self.now) }
@@ -155,65 +158,78 @@ impl Given<'_, '_> {
         }
     }
 
-    /// The property as a whole number from `low` to `high`, where there is one.
-    pub(crate) fn count(&self, name: &str, low: u32, high: u32) -> Result<Option<u32>, Refusal>
-        requires { 0 < length name.now }
-        ensures value { result ≡ read_given (counted_of low high) (last_named name.now (props_in self.now)) }
-        ensures range { IfOk result (λ given. IfSome given (λ n. (low ≤ n) × (n ≤ high))) }
+    /// The whole number of a row, or its default.
+    pub(crate) fn count(&self, row: &Count) -> Result<u32, Refusal>
+        requires name { IsTrue (is_spelled row.now.name) }
+        requires default { (row.now.low ≤ row.now.default) × (row.now.default ≤ row.now.high) }
+        ensures value { result ≡ meaning.count row.now (props_in self.now) }
+        ensures range { IfOk result (λ n. (row.now.low ≤ n) × (n ≤ row.now.high)) }
     {
+        let name = row.name.as_str();
+        let Some(text) = self.text(name) else {
+            return Ok(row.default);
+        };
+        match counted(row.low, row.high, text) {
+            Ok(n) => Ok(n),
+            Err(cause) => Err(self.refusal(name, cause)),
+        }
+    }
+
+    /// The whole number of a row, where there is one.
+    pub(crate) fn number(&self, row: &Number) -> Result<Option<u32>, Refusal>
+        requires { IsTrue (is_spelled row.now.name) }
+        ensures value { result ≡ meaning.number row.now (props_in self.now) }
+        ensures range { IfOk result (λ given. IfSome given (λ n. (row.now.low ≤ n) × (n ≤ row.now.high))) }
+    {
+        let name = row.name.as_str();
         let Some(text) = self.text(name) else {
             return Ok(None);
         };
-        match counted(low, high, text) {
+        match counted(row.low, row.high, text) {
             Ok(n) => Ok(Some(n)),
             Err(cause) => Err(self.refusal(name, cause)),
         }
     }
 
-    /// The property as a whole number from `low` to `high`, or the default where there is none.
-    pub(crate) fn count_or(
-        &self,
-        name: &str,
-        low: u32,
-        high: u32,
-        default: u32,
-    ) -> Result<u32, Refusal>
-        requires name { 0 < length name.now }
-        requires default { (low ≤ default) × (default ≤ high) }
-        ensures value { result ≡ read_prop (counted_of low high) default (last_named name.now (props_in self.now)) }
-        ensures range { IfOk result (λ n. (low ≤ n) × (n ≤ high)) }
+    /// The distance of a row's number from 0, or 0.
+    pub(crate) fn size(&self, row: &Size) -> Result<u32, Refusal>
+        requires name { IsTrue (is_spelled row.now.name) }
+        requires high { row.now.high < 1000 }
+        ensures value { result ≡ meaning.size row.now (props_in self.now) }
+        ensures range { IfOk result (λ n. n ≤ row.now.high) }
     {
-        let Some(text) = self.text(name) else {
-            return Ok(default);
-        };
-        match counted(low, high, text) {
-            Ok(n) => Ok(n),
-            Err(cause) => Err(self.refusal(name, cause)),
-        }
-    }
-
-    /// How far the property is from 0, at most `high`, or 0 where there is none.
-    pub(crate) fn size(&self, name: &str, high: u32) -> Result<u32, Refusal>
-        requires name { 0 < length name.now }
-        requires high { high < 1000 }
-        ensures value { result ≡ read_prop (sized_of high) 0 (last_named name.now (props_in self.now)) }
-        ensures range { IfOk result (λ n. n ≤ high) }
-    {
+        let name = row.name.as_str();
         let Some(text) = self.text(name) else {
             return Ok(0);
         };
-        match sized(high, text) {
+        match sized(row.high, text) {
             Ok(n) => Ok(n),
             Err(cause) => Err(self.refusal(name, cause)),
         }
     }
 
-    /// The property as a position, where there is one.
-    pub(crate) fn time(&self, name: &str, rate: Rate) -> Result<Option<u32>, Refusal>
-        requires { 0 < length name.now }
-        ensures value { result ≡ read_given (timed_of (fraction rate)) (last_named name.now (props_in self.now)) }
+    /// Whether it is the second of a row's words.
+    pub(crate) fn choice(&self, row: &Choice) -> Result<bool, Refusal>
+        requires { IsTrue (is_spelled row.now.name) }
+        ensures { result ≡ meaning.choice row.now (props_in self.now) }
+    {
+        let name = row.name.as_str();
+        let Some(text) = self.text(name) else {
+            return Ok(false);
+        };
+        match chosen(row, text) {
+            Ok(second) => Ok(second),
+            Err(cause) => Err(self.refusal(name, cause)),
+        }
+    }
+
+    /// The position of a row, where there is one.
+    pub(crate) fn moment(&self, row: &Moment, rate: Rate) -> Result<Option<u32>, Refusal>
+        requires { IsTrue (is_spelled row.now.name) }
+        ensures value { result ≡ meaning.moment row.now (fraction rate) (props_in self.now) }
         ensures range { IfOk result (λ given. IfSome given (λ n. n < 2 ^ 31)) }
     {
+        let name = row.name.as_str();
         let Some(text) = self.text(name) else {
             return Ok(None);
         };
@@ -223,31 +239,18 @@ impl Given<'_, '_> {
         }
     }
 
-    /// The property as a position, or 0 where there is none.
-    pub(crate) fn time_or_first(&self, name: &str, rate: Rate) -> Result<u32, Refusal>
-        requires { 0 < length name.now }
-        ensures value { result ≡ read_prop (timed_of (fraction rate)) 0 (last_named name.now (props_in self.now)) }
+    /// The position of a row, or the first.
+    pub(crate) fn moment_or_first(&self, row: &Moment, rate: Rate) -> Result<u32, Refusal>
+        requires { IsTrue (is_spelled row.now.name) }
+        ensures value { result ≡ meaning.moment_or_first row.now (fraction rate) (props_in self.now) }
         ensures range { IfOk result (λ n. n < 2 ^ 31) }
     {
+        let name = row.name.as_str();
         let Some(text) = self.text(name) else {
             return Ok(0);
         };
         match timed(rate, text) {
             Ok(n) => Ok(n),
-            Err(cause) => Err(self.refusal(name, cause)),
-        }
-    }
-
-    /// The property as how the pixels are written, three bytes over black where there is none.
-    pub(crate) fn pix(&self, name: &str) -> Result<Pix, Refusal>
-        requires { 0 < length name.now }
-        ensures { Takes pix_of result (read_prop pix_named Rgb (last_named name.now (props_in self.now))) }
-    {
-        let Some(text) = self.text(name) else {
-            return Ok(Pix::Rgb);
-        };
-        match pix_by_name(text) {
-            Ok(pix) => Ok(pix),
             Err(cause) => Err(self.refusal(name, cause)),
         }
     }

@@ -22,7 +22,7 @@ use crate::state::{Made, State};
 use crate::wanted::Cut;
 use mlt_base::{Pos, Profile, Text, Try};
 use mlt_graph::{Format, Graph, GraphFault, Level, Output, Pix, Sealed, Show};
-use mlt_tree::{Cause, Refusal};
+use mlt_tree::{Cause, Refusal, services as row};
 use std::alloc::{AllocError, Global};
 
 /// The bytes of one picture or of one pair's sound in a frame, whichever is more.
@@ -96,9 +96,9 @@ fn default_consumer() -> Consumer<'static>
         video: "-",
         pix: Pix::Rgb,
         workers: 0,
-        buffer: 25,
-        slices: 1,
-        cache: 4,
+        buffer: row::BUFFER.default,
+        slices: row::SLICES.default,
+        cache: row::CACHE.default,
         first: None,
         last: None,
     }

@@ -1,115 +1,147 @@
-//! The service that a word names, and its argument.
+//! The producer or the consumer that a word names, and its argument.
 
-ghost use Rattle.std.specs.Prelude.{◌≡◌, nat_eq};
+ghost use Rattle.std.specs.Prelude.{◌≡◌, nat_eq, find};
 ghost use Rattle.std.specs.Option.{option_map, option_copied};
-ghost use Rattle.std.specs.List.{ends_with};
 ghost use Rattle.mlt_base.specs.Cut.{cut};
-ghost use Rattle.mlt_tree.specs.Services.{service_named, service_of_file, with_arg as with_arg_spec, producer_of, raw_of, colour_name, output_name, by_id, raw_by_id};
-ghost use Rattle.melt_build.specs.Service.{service_view, named_view};
+ghost use Rattle.mlt_tree.specs.Services.{is_id, ends_in, producer_named, producer_of_file, stands_alone, with_arg, producer_of, raw_of, colour_name, output_name, by_id, raw_by_id};
+ghost use Rattle.melt_build.specs.Service.{named_view};
 
-/// What makes a source, or more than one.
-#[derive(Clone, Copy, Debug, PartialEq, Eq)]
-pub(crate) enum Service {
-    Colour,
-    Picture,
-    Sound,
-    Melt,
-}
+use mlt_base::Name;
+use mlt_tree::Producer;
+use mlt_tree::services::{PRODUCERS, ProducerRow, RAW};
 
-/// A service and its argument.
+/// A producer and its argument.
 #[derive(Clone, Copy)]
 pub(crate) struct Named<'a> {
-    pub service: Service,
+    pub producer: Producer,
     pub arg: &'a str,
 }
 
-fn by_name(id: &str) -> Option<Service>
-    ensures { option_map service_view result ≡ service_named id.now }
+/// The row of an id.
+fn row_of_id(rows: &[ProducerRow], id: &str) -> Option<ProducerRow>
+    ensures { result ≡ find (is_id id.now) rows.now }
 {
-    match id {
-        "colour" | "color" => Some(Service::Colour),
-        "ppm" => Some(Service::Picture),
-        "pcm" => Some(Service::Sound),
-        "melt_file" => Some(Service::Melt),
-        _ => None,
+    for row in rows {
+        if row.name.as_bytes() == id.as_bytes() {
+            return Some(*row);
+        }
+    }
+    None
+}
+
+/// Whether a file's name has an ending, if there is one.
+fn ends_in(file: &str, ending: Option<Name>) -> bool
+    ensures { result ≡ ends_in file.now ending }
+{
+    match ending {
+        None => false,
+        Some(ending) => file.as_bytes().ends_with(ending.as_bytes()),
     }
 }
 
-fn of_file(name: &str) -> Option<Service>
-    ensures { option_map service_view result ≡ service_of_file name.now }
+/// The row of a file, by its ending.
+fn row_of_file(rows: &[ProducerRow], file: &str) -> Option<ProducerRow>
+    ensures { result ≡ find (λ row. ends_in file.now row.ending) rows.now }
 {
-    let bytes = name.as_bytes();
-    if bytes.ends_with(b".ppm") {
-        Some(Service::Picture)
-    } else if bytes.ends_with(b".pcm") {
-        Some(Service::Sound)
-    } else if bytes.ends_with(b".melt") {
-        Some(Service::Melt)
-    } else {
-        None
+    for row in rows {
+        if ends_in(file, row.ending) {
+            return Some(*row);
+        }
     }
+    None
+}
+
+/// The producer of an id.
+fn producer_named(id: &str) -> Option<Producer>
+    ensures { result ≡ producer_named id.now }
+{
+    row_of_id(&PRODUCERS, id).map(|row| row.kind)
+}
+
+/// The producer of a file, by its ending.
+fn producer_of_file(file: &str) -> Option<Producer>
+    ensures { result ≡ producer_of_file file.now }
+{
+    row_of_file(&PRODUCERS, file).map(|row| row.kind)
 }
 
 /// What stands before the first `:` of a word, and behind it.
 #[tactic(auto, using(std::proofs::lemmas::Str::Pattern::split_once_first), unfolding(mlt_base::specs::Cut::cut))]
-fn divided(word: &str) -> Option<(&str, &str)>
+fn cut(word: &str) -> Option<(&str, &str)>
     ensures { option_map (λ x. (x.0.now, x.1.now)) result ≡ cut 58 word.now }
 {
     word.split_once(':')
 }
 
-fn with_arg(arg: &str, service: Option<Service>) -> Option<Named<'_>>
-    ensures { option_map named_view result ≡ with_arg_spec arg.now (option_map service_view service) }
+/// A producer, where there is one, with its argument.
+fn with_arg(arg: &str, producer: Option<Producer>) -> Option<Named<'_>>
+    ensures { option_map named_view result ≡ with_arg arg.now producer }
 {
-    match service {
+    match producer {
         None => None,
-        Some(service) => Some(Named { service, arg }),
+        Some(producer) => Some(Named { producer, arg }),
     }
 }
 
-fn before_colon(word: &str) -> Option<Named<'_>>
+/// The producer whose id stands before the first `:`.
+fn by_id(word: &str) -> Option<Named<'_>>
     ensures { option_map named_view result ≡ by_id (cut 58 word.now) }
 {
-    match divided(word) {
+    match cut(word) {
         None => None,
-        Some((id, arg)) => with_arg(arg, by_name(id)),
+        Some((id, arg)) => with_arg(arg, producer_named(id)),
     }
 }
 
-/// The service that a producer's word names.
-pub(crate) fn producer(word: &str) -> Option<Named<'_>>
+/// Whether a producer's id may stand alone.
+fn stands_alone(producer: Option<Producer>) -> bool
+    ensures { result ≡ stands_alone producer }
+{
+    match producer {
+        None => false,
+        Some(Producer::Colour) => true,
+        Some(Producer::Picture) => false,
+        Some(Producer::Sound) => false,
+        Some(Producer::Melt) => false,
+    }
+}
+
+/// The producer that a word names.
+pub(crate) fn producer_of(word: &str) -> Option<Named<'_>>
     ensures { option_map named_view result ≡ producer_of word.now }
 {
-    if word == "colour" || word == "color" {
-        return with_arg("", Some(Service::Colour));
+    if stands_alone(producer_named(word)) {
+        return with_arg("", Some(Producer::Colour));
     }
-    match before_colon(word) {
-        None => with_arg(word, of_file(word)),
+    match by_id(word) {
+        None => with_arg(word, producer_of_file(word)),
         Some(named) => Some(named),
     }
 }
 
 /// The text of a colour, `black` where it is empty.
-pub(crate) fn colour_text(arg: &str) -> &str
+pub(crate) fn colour_name(arg: &str) -> &str
     ensures { result.now ≡ colour_name arg.now }
 {
     if arg.is_empty() { "black" } else { arg }
 }
 
-fn output(name: &str) -> &str
+/// The name of an output, `-` where it is empty.
+fn output_name(name: &str) -> &str
     ensures { result.now ≡ output_name name.now }
 {
     if name.is_empty() { "-" } else { name }
 }
 
-fn raw_before_colon(word: &str) -> Option<&str>
+/// The name of the output behind the first `:`, where `raw` stands before it.
+fn raw_by_id(word: &str) -> Option<&str>
     ensures { option_copied result ≡ raw_by_id (cut 58 word.now) }
 {
-    match divided(word) {
+    match cut(word) {
         None => None,
         Some((id, name)) => {
-            if id == "raw" {
-                Some(output(name))
+            if id.as_bytes() == RAW.as_bytes() {
+                Some(output_name(name))
             } else {
                 None
             }
@@ -118,11 +150,11 @@ fn raw_before_colon(word: &str) -> Option<&str>
 }
 
 /// The name of the output of the consumer `raw`, where the word names that.
-pub(crate) fn raw(word: &str) -> Option<&str>
+pub(crate) fn raw_of(word: &str) -> Option<&str>
     ensures { option_copied result ≡ raw_of word.now }
 {
-    if word == "raw" {
+    if word.as_bytes() == RAW.as_bytes() {
         return Some("-");
     }
-    raw_before_colon(word)
+    raw_by_id(word)
 }

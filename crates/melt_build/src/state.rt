@@ -1,7 +1,8 @@
 //! A composition as far as its groups are read.
 
 ghost use Rattle.std.specs.Prelude.{◌≡◌};
-ghost use Rattle.mlt_tree.specs.Composition.{raw_output as raw_output_of, consumer as consumer_of};
+ghost use Rattle.mlt_graph.specs.Show.{pix_of};
+ghost use Rattle.mlt_tree.specs.Composition.{pix_of as pix_of_choice, raw_output as raw_output_of, consumer as consumer_of};
 ghost use Rattle.melt_build.specs.Given.{props_in};
 ghost use Rattle.melt_build.specs.Reads.{Takes};
 ghost use Rattle.melt_build.specs.State.{IsComposed, state_view};
@@ -9,11 +10,11 @@ ghost use Rattle.melt_build.specs.State.{IsComposed, state_view};
 use crate::consumer::Consumer;
 use crate::object::Object;
 use crate::props::Given;
-use crate::service::raw;
+use crate::service::raw_of;
 use crate::sources::SourceTable;
 use mlt_base::{Profile, UnitId};
-use mlt_graph::{Graph, Level};
-use mlt_tree::{Cause, Group, Refusal};
+use mlt_graph::{Graph, Level, Pix};
+use mlt_tree::{Cause, Group, Refusal, services as row};
 
 /// What the words of a file share with those around them: the units, the sources, how many bytes were loaded
 /// and how many words were read.
@@ -34,6 +35,13 @@ pub(crate) struct State<'a> {
     pub inherited: Object<'a>,
     pub last_mix: Option<UnitId>,
     pub consumer: Option<Consumer<'a>>,
+}
+
+/// How the pixels are written.
+fn pix_of(rgba: bool) -> Pix
+    ensures { pix_of result ≡ pix_of_choice rgba }
+{
+    if rgba { Pix::Rgba } else { Pix::Rgb }
 }
 
 impl<'a> State<'a> {
@@ -70,17 +78,17 @@ impl<'a> State<'a> {
         ensures composed { IsComposed self.new }
     {
         let rate = self.profile.rate;
-        let pix = given.pix("pix")?;
-        let workers = given.size("real_time", 16)?;
-        let buffer = given.count_or("buffer", 1, 64, 25)?;
-        let slices = given.count_or("slices", 1, 16, 1)?;
-        let cache = given.count_or("cache", 0, 64, 4)?;
-        let first = given.time("in", rate)?;
-        let last = given.time("out", rate)?;
+        let rgba = given.choice(&row::PIX)?;
+        let workers = given.size(&row::REAL_TIME)?;
+        let buffer = given.count(&row::BUFFER)?;
+        let slices = given.count(&row::SLICES)?;
+        let cache = given.count(&row::CACHE)?;
+        let first = given.moment(&row::IN, rate)?;
+        let last = given.moment(&row::OUT, rate)?;
         self.consumer = Some(Consumer {
             place: group.place,
             video,
-            pix,
+            pix: pix_of(rgba),
             workers,
             buffer,
             slices,
@@ -102,7 +110,7 @@ impl<'a> State<'a> {
         if let Some(_) = self.consumer {
             return Err(Refusal::at(group.place, Cause::TooMany { limit: 1 }));
         }
-        let Some(video) = raw(group.arg.as_str()) else {
+        let Some(video) = raw_of(group.arg.as_str()) else {
             return Err(Refusal::at(group.place, Cause::UnknownService));
         };
         self.raw_output(group, given, video)

@@ -1,8 +1,7 @@
 //! Options, by their words.
 
 ghost use Rattle.std.specs.Prelude.{◌≡◌, find};
-ghost use Rattle.std.specs.List.{before_first};
-ghost use Rattle.mlt_tree.specs.Table.{is_blank, is_named, option_of};
+ghost use Rattle.mlt_tree.specs.Table.{is_named, option_of};
 ghost use Rattle.mlt_tree.specs.Words.{is_option};
 
 use mlt_tree::{OPTIONS, Row};
@@ -26,23 +25,9 @@ fn row_named(rows: &[Row], word: &[u8]) -> Option<Row>
     ensures { result ≡ find (is_named word.now) rows.now }
 {
     for row in rows {
-        if without_blanks(&row.name) == word {
+        if row.name.as_bytes() == word {
             return Some(*row);
         }
     }
     None
-}
-
-/// The name, without the blanks behind it.
-fn without_blanks(name: &[u8]) -> &[u8]
-    ensures { result.now ≡ before_first is_blank name.now }
-{
-    let mut count = 0;
-    for byte in name {
-        if *byte == b' ' {
-            break;
-        }
-        count += 1;
-    }
-    &name[..count]
 }

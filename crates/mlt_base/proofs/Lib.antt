@@ -13,3 +13,4 @@ pub mod DecimalForms
 pub mod TimeForms
 pub mod Rising
 pub mod Values
+pub mod Names

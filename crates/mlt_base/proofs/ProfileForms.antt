@@ -9,7 +9,8 @@ use Rattle.mlt_base.specs.declared.table.NamedProfile.{NamedProfile}
 use Rattle.mlt_base.specs.declared.table.TheConstants.{PROFILES}
 use Rattle.mlt_base.specs.Reading.{AreDigits, IsNumeral, digit_count, number}
 use Rattle.mlt_base.specs.Cut.{cut}
-use Rattle.mlt_base.specs.Profile.{Measures, is_size, is_rate, within, field, pair, spelled, name_of, is_named, profile_from, profile}
+use Rattle.mlt_base.specs.Name.{name_of}
+use Rattle.mlt_base.specs.Profile.{Measures, is_size, is_rate, within, field, pair, spelled, is_named, profile_from, profile}
 use Rattle.mlt_base.specs.Grammar.{measures_of, IsProfile, IsWithin, IsNamed}
 use Rattle.mlt_base.proofs.Forms.{digit_count-all, AreDigits-all}
 use Rattle.mlt_base.proofs.Cuts.{Lacks-append, Lacks-digits, cut_again, cut_takes, some_is, bind_some}
@@ -159,13 +160,13 @@ profile_from_takes text m None h e = inr (spelled_takes text m e)
 profile_from_takes text m (Some row) h e = inl (named (found (is_named text) PROFILES row h))
   where
     named : Any (λ y. (is_named text y ≡ true) × (y ≡ row)) PROFILES → IsNamed text m
-    named (k, z, lt, at, (passes, is)) = (k, z, lt, at, (sym (bytes_eq-true (name_of z) text passes), sym (within_takes (measures_of row) m e).1 ∙ ap measures_of (sym is)))
+    named (k, z, lt, at, (passes, is)) = (k, z, lt, at, (sym (bytes_eq-true (name_of z.name) text passes), sym (within_takes (measures_of row) m e).1 ∙ ap measures_of (sym is)))
 
 pub profile_takes : (text : List ℕ) (m : Measures) → profile text ≡ Some m → IsNamed text m ⊎ (IsProfile text m × IsWithin m)
 unfolding profile
 profile_takes text m e = profile_from_takes text m (find (is_named text) PROFILES) refl e
 
-pub profile_named : All (λ row. profile (name_of row) ≡ Some (measures_of row)) PROFILES
+pub profile_named : All (λ row. profile (name_of row.name) ≡ Some (measures_of row)) PROFILES
 unfolding profile within
 profile_named zero d h = refl
 profile_named (suc zero) d h = refl
@@ -178,13 +179,13 @@ has_at : (front back : List ℕ) → list_any (λ b. eqb b 64) (front ++ 64 ∷ 
 has_at [] back = refl
 has_at (b ∷ front) back = or_right (eqb b 64) (list_any (λ c. eqb c 64) (front ++ 64 ∷ back)) (has_at front back)
 
-unnamed : (front back : List ℕ) (rows : List NamedProfile) → list_all (λ row. not (list_any (λ b. eqb b 64) (name_of row))) rows ≡ true → find (is_named (front ++ 64 ∷ back)) rows ≡ None
+unnamed : (front back : List ℕ) (rows : List NamedProfile) → list_all (λ row. not (list_any (λ b. eqb b 64) (name_of row.name))) rows ≡ true → find (is_named (front ++ 64 ∷ back)) rows ≡ None
 unnamed front back [] h = refl
 unnamed front back (row ∷ rows) h =
-    let each = and_parts (not (list_any (λ b. eqb b 64) (name_of row))) _ h in
+    let each = and_parts (not (list_any (λ b. eqb b 64) (name_of row.name))) _ h in
     let other : is_named (front ++ 64 ∷ back) row ≡ false = false_from_ne_true (is_named (front ++ 64 ∷ back) row) (λ same.
-    both_ways (list_any (λ b. eqb b 64) (name_of row)) (not-true (list_any (λ b. eqb b 64) (name_of row)) each.0)
-    (ap (list_any (λ b. eqb b 64)) (bytes_eq-true (name_of row) (front ++ 64 ∷ back) same) ∙ has_at front back)) in
+    both_ways (list_any (λ b. eqb b 64) (name_of row.name)) (not-true (list_any (λ b. eqb b 64) (name_of row.name)) each.0)
+    (ap (list_any (λ b. eqb b 64)) (bytes_eq-true (name_of row.name) (front ++ 64 ∷ back) same) ∙ has_at front back)) in
     rw (other, unnamed front back rows each.1) refl
 
 pub profile_spelled : (text : List ℕ) (m : Measures) → IsProfile text m → IsWithin m → profile text ≡ Some m

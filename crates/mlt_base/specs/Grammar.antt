@@ -3,7 +3,8 @@ use Rattle.std.specs.Prelude.{◌≡◌, ℕ, ◌+◌, ◌*◌, ◌/◌, ◌^◌
 use Rattle.std.specs.List.{Any}
 use Rattle.mlt_base.specs.declared.table.NamedProfile.{NamedProfile}
 use Rattle.mlt_base.specs.declared.table.TheConstants.{PROFILES}
-use Rattle.mlt_base.specs.Profile.{Measures, name_of}
+use Rattle.mlt_base.specs.Name.{name_of}
+use Rattle.mlt_base.specs.Profile.{Measures}
 use Rattle.mlt_base.specs.Geometry.{Place, hundredths}
 use Rattle.mlt_base.specs.declared.animation.Key.{Key}
 use Rattle.mlt_base.specs.Animation.{constant}
@@ -75,7 +76,7 @@ IsWithin m = (1 ≤ m.width) × (m.width ≤ 4096) × (1 ≤ m.height) × (m.hei
 
 -- the text is a name of the table, which has these measures
 abbrev pub IsNamed : List ℕ → Measures → Type 0
-IsNamed text m = Any (λ row. (text ≡ name_of row) × (m ≡ measures_of row)) PROFILES
+IsNamed text m = Any (λ row. (text ≡ name_of row.name) × (m ≡ measures_of row)) PROFILES
 
 -- ---- geometries
 

@@ -9,6 +9,7 @@ pub mod TimeParts
 pub mod Animation
 pub mod Geometry
 pub mod GeometryView
+pub mod Name
 pub mod Profile
 pub mod ProfileView
 pub mod Grammar

@@ -1,9 +1,10 @@
 -- Profiles: a name of the table, or `WxH@num/den`.
 use Rattle.std.specs.Prelude.{ℕ, ◌*◌, Bool, List, length, Option, Some, None, nat_le, ◌==◌, ◌&&◌, if◌then◌else◌}
-use Rattle.std.specs.List.{find, before_first}
+use Rattle.std.specs.List.{find}
 use Rattle.std.specs.Str.{bytes_eq}
 use Rattle.mlt_base.specs.declared.table.NamedProfile.{NamedProfile}
 use Rattle.mlt_base.specs.declared.table.TheConstants.{PROFILES}
+use Rattle.mlt_base.specs.Name.{name_of}
 use Rattle.mlt_base.specs.Reading.{number, digit_count}
 use Rattle.mlt_base.specs.Cut.{◌>>=◌, cut}
 
@@ -50,12 +51,8 @@ spelled text = do
 
 -- ---- the table
 
--- a row's name, which blanks, 32, fill up
-abbrev pub name_of : NamedProfile → List ℕ
-name_of row = before_first (λ b. b == 32) row.name
-
 abbrev pub is_named : List ℕ → NamedProfile → Bool
-is_named text row = bytes_eq (name_of row) text
+is_named text row = bytes_eq (name_of row.name) text
 
 abbrev pub profile_from : List ℕ → Option NamedProfile → Option Measures
 profile_from text (Some row) = within (record { width = row.width; height = row.height; num = row.num; den = row.den })

@@ -13,7 +13,8 @@ ghost use Rattle.mlt_base.specs.Time.{Form, frames_of, time};
 ghost use Rattle.mlt_base.specs.declared.animation.Key.{Key};
 ghost use Rattle.mlt_base.specs.Animation.{Rises, between, value_at, animation};
 ghost use Rattle.mlt_base.specs.declared.table.TheConstants.{PROFILES};
-ghost use Rattle.mlt_base.specs.Profile.{Measures, name_of, profile};
+ghost use Rattle.mlt_base.specs.Name.{name_of};
+ghost use Rattle.mlt_base.specs.Profile.{Measures, profile};
 ghost use Rattle.mlt_base.specs.Geometry.{Place, geometry};
 ghost use Rattle.mlt_base.specs.Grammar.{IsWhole, IsDecimal, IsTime, measures_of, IsNamed, IsProfile, IsWithin, IsGeometry, IsAnimation, AreHeld};
 
@@ -43,7 +44,7 @@ pub fn times()
 /// Exactly the names of the table and the spelled profiles within the limits are read, each as its
 /// measures.
 pub fn profiles()
-    ensures named { All (λ row. profile (name_of row) ≡ Some (measures_of row)) PROFILES }
+    ensures named { All (λ row. profile (name_of row.name) ≡ Some (measures_of row)) PROFILES }
     ensures spelled { (text : List ℕ) (m : Measures) → IsProfile text m → IsWithin m → profile text ≡ Some m }
     ensures only { (text : List ℕ) (m : Measures) → profile text ≡ Some m → IsNamed text m ⊎ (IsProfile text m × IsWithin m) }
 {}

@@ -205,7 +205,7 @@ fn profile_rows(rt: HostRuntime) {
         };
         assert_eq!(rt; found, wanted, "{text}");
     }
-    assert_eq!(rt; PROFILES[1].name(), b"dv_ntsc".as_slice());
+    assert_eq!(rt; PROFILES[1].name.as_str(), "dv_ntsc");
 }
 
 #[test]

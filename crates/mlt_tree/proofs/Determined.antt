@@ -7,13 +7,14 @@ use Rattle.std.proofs.lemmas.List.Elements.{All-head, All-tail}
 use Rattle.mlt_base.specs.declared.faults.WordFault.{WordFault}
 use Rattle.mlt_base.specs.declared.faults.WordCause.TheVariants.{TooMany}
 use Rattle.mlt_base.specs.Steps.{◌>>=◌}
+use Rattle.mlt_base.specs.Name.{name_of}
 use Rattle.mlt_tree.specs.declared.group.TheConstants.{MOST_WORDS}
 use Rattle.mlt_tree.specs.declared.group.Group.{Group}
 use Rattle.mlt_tree.specs.declared.group.GroupKind.{GroupKind}
 use Rattle.mlt_tree.specs.declared.group.GroupKind.TheVariants.{Producer}
 use Rattle.mlt_tree.specs.declared.group.Prop.{Prop}
 use Rattle.mlt_tree.specs.declared.table.Row.{Row}
-use Rattle.mlt_tree.specs.Table.{row_of, name_of}
+use Rattle.mlt_tree.specs.Table.{row_of}
 use Rattle.mlt_tree.specs.Words.{State, Last, Nothing, Waiting, Open, fault, start, open_group, groups_of, then_last, begin, option_word, with_prop, property_word, free_word, step, steps, finish, groups}
 use Rattle.mlt_tree.specs.GroupWords.{prop_word, own_words_by, own_words, words_of, takes_argument, takes_properties, IsAllowedProp, IsAllowed, IsProducerWord, IsReadableProp, IsReadable, AreGroupsOf, DeterminesGroups}
 use Rattle.mlt_tree.proofs.Bound.{ok, ok_one, not_ok}
@@ -63,10 +64,10 @@ bare group properties s = record { done = groups_of s; last = Open (record group
 -- ---- the words of a group's own
 
 -- the word of an option begins its group, which may wait for its argument
-option_step : (place : ℕ) (kind : GroupKind) (row : Row) (s : State) → row_of kind ≡ Some row → IsWhole s.last → step place (name_of row) s ≡ ok (cond row.argument (then_last (Waiting place kind row.properties) s) (begin place kind [] row.properties s))
+option_step : (place : ℕ) (kind : GroupKind) (row : Row) (s : State) → row_of kind ≡ Some row → IsWhole s.last → step place (name_of row.name) s ≡ ok (cond row.argument (then_last (Waiting place kind row.properties) s) (begin place kind [] row.properties s))
 unfolding option_word
 option_step place kind row s e whole =
-    step_free place (name_of row) s.done s.last whole ∙ rw (is_option-row kind row e, option_of-row kind row e, kind_of-row kind row e) refl
+    step_free place (name_of row.name) s.done s.last whole ∙ rw (is_option-row kind row e, option_of-row kind row e, kind_of-row kind row e) refl
 
 -- an option that waits takes the next word
 argument_step : (next place : ℕ) (word : List ℕ) (kind : GroupKind) (properties : Bool) (done : List Group) → step next word (record { done = done; last = Waiting place kind properties }) ≡ ok (begin place kind word properties (record { done = done; last = Waiting place kind properties }))
@@ -75,7 +76,7 @@ argument_step next place word kind properties done = refl
 
 option_run : (g : Group) (row : Row) (s : State) → row_of g.kind ≡ Some row → IsWhole s.last → (row.argument ≡ false → g.arg ≡ []) → run (own_words_by g (Some row)) s ≡ ok (bare g row.properties s)
 option_run g row s e whole argument = by row.argument refl (option_step g.place g.kind row s e whole) where
-  by : (b : Bool) → row.argument ≡ b → step g.place (name_of row) s ≡ ok (cond b (then_last (Waiting g.place g.kind row.properties) s) (begin g.place g.kind [] row.properties s)) → run ((g.place, name_of row) ∷ cond b ((g.place + 1, g.arg) ∷ []) []) s ≡ ok (bare g row.properties s)
+  by : (b : Bool) → row.argument ≡ b → step g.place (name_of row.name) s ≡ ok (cond b (then_last (Waiting g.place g.kind row.properties) s) (begin g.place g.kind [] row.properties s)) → run ((g.place, name_of row.name) ∷ cond b ((g.place + 1, g.arg) ∷ []) []) s ≡ ok (bare g row.properties s)
   by true is h =
       ap (λ r. r >>= run ((g.place + 1, g.arg) ∷ [])) h
       ∙ ap (λ r. r >>= run []) (argument_step (g.place + 1) g.place g.arg g.kind row.properties (groups_of s))

@@ -7,13 +7,14 @@ use Rattle.std.proofs.lemmas.List.{map-append}
 use Rattle.std.proofs.lemmas.List.Sums.{split_at_first, passes_at_first}
 use Rattle.std.proofs.lemmas.Bool.{ltb-true, eqb-true}
 use Rattle.mlt_base.specs.declared.faults.WordCause.TheVariants.{TooMany}
+use Rattle.mlt_base.specs.Name.{name_of}
 use Rattle.mlt_tree.specs.declared.group.TheConstants.{MOST_WORDS}
 use Rattle.mlt_tree.specs.declared.group.Group.{Group}
 use Rattle.mlt_tree.specs.declared.group.GroupKind.{GroupKind}
 use Rattle.mlt_tree.specs.declared.group.GroupKind.TheVariants.{Producer}
 use Rattle.mlt_tree.specs.declared.group.Prop.{Prop}
 use Rattle.mlt_tree.specs.declared.table.Row.{Row}
-use Rattle.mlt_tree.specs.Table.{option_of, row_of, name_of}
+use Rattle.mlt_tree.specs.Table.{option_of, row_of}
 use Rattle.mlt_base.specs.Steps.{◌>>=◌}
 use Rattle.mlt_tree.specs.Words.{State, Last, Nothing, Waiting, Open, fault, start, groups_of, then_last, begin, is_option, known, supported, option_word, is_equals, divided, with_prop, property_word, plain_word, free_word, step, steps, finish, groups}
 use Rattle.mlt_tree.specs.GroupWords.{prop_word, own_words_by, own_words, words_of}
@@ -22,7 +23,7 @@ use Rattle.mlt_tree.proofs.Options.{nothing_found, row_of-option, name_of-option
 
 abbrev name_at : ℕ → Option Row → List (ℕ × List ℕ)
 name_at place None = []
-name_at place (Some row) = (place, name_of row) ∷ []
+name_at place (Some row) = (place, name_of row.name) ∷ []
 
 -- the word of an option that waits for its argument
 abbrev waiting_word : Last → List (ℕ × List ℕ)
@@ -56,7 +57,7 @@ added gs g = append-nil (flat_map words_of (gs ++ g ∷ [])) ∙ flat_map-append
 own_of_option : (g : Group) (next : ℕ) (option : Option Row) → TakesNext next g.place option → own_words_by g option ≡ name_at g.place option ++ (next, g.arg) ∷ []
 own_of_option g next None before = absurd before
 own_of_option g next (Some row) before =
-    rw before.1 (ap (λ place. (g.place, name_of row) ∷ (place, g.arg) ∷ []) before.0)
+    rw before.1 (ap (λ place. (g.place, name_of row.name) ∷ (place, g.arg) ∷ []) before.0)
 
 argument_kept : (next : ℕ) (word : List ℕ) (done : List Group) (place : ℕ) (kind : GroupKind) (properties : Bool) → TakesNext next place (row_of kind) → Kept next word (record { done = done; last = Waiting place kind properties }) (begin place kind word properties (record { done = done; last = Waiting place kind properties }))
 argument_kept next word done place kind properties before =
@@ -76,7 +77,7 @@ begin_kept next word kind arg properties s none own =
     }
 
 -- an option that waits for its argument
-wait_kept : (next : ℕ) (word : List ℕ) (kind : GroupKind) (row : Row) (s : State) → waiting_word s.last ≡ [] → row_of kind ≡ Some row → name_of row ≡ word → row.argument ≡ true → Kept next word s (then_last (Waiting next kind row.properties) s)
+wait_kept : (next : ℕ) (word : List ℕ) (kind : GroupKind) (row : Row) (s : State) → waiting_word s.last ≡ [] → row_of kind ≡ Some row → name_of row.name ≡ word → row.argument ≡ true → Kept next word s (then_last (Waiting next kind row.properties) s)
 wait_kept next word kind row s none of_kind named argument =
     record {
       words = ap (λ gs. flat_map words_of gs ++ name_at next (row_of kind)) (append-nil (groups_of s)) ∙ ap (λ o. flat_map words_of (groups_of s) ++ name_at next o) of_kind ∙ ap (λ w. flat_map words_of (groups_of s) ++ (next, w) ∷ []) named ∙ ap (λ ws. ws ++ (next, word) ∷ []) (sym (append-nil (flat_map words_of (groups_of s))) ∙ ap (λ ws. flat_map words_of (groups_of s) ++ ws) (sym none));
@@ -89,7 +90,7 @@ to {next} {word} {s} t u h k = subst (Kept next word s) (ok_one t u h) k
 option_kept : (next : ℕ) (word : List ℕ) (s t : State) → waiting_word s.last ≡ [] → option_word next word s ≡ Ok t → Kept next word s t
 unfolding option_word
 option_kept next word s t none h = by_row (option_of word) refl h where
-  by_argument : (row : Row) (kind : GroupKind) → row_of kind ≡ Some row → name_of row ≡ word → (b : Bool) → row.argument ≡ b → ok (cond b (then_last (Waiting next kind row.properties) s) (begin next kind [] row.properties s)) ≡ Ok t → Kept next word s t
+  by_argument : (row : Row) (kind : GroupKind) → row_of kind ≡ Some row → name_of row.name ≡ word → (b : Bool) → row.argument ≡ b → ok (cond b (then_last (Waiting next kind row.properties) s) (begin next kind [] row.properties s)) ≡ Ok t → Kept next word s t
   by_argument row kind of_kind named true argument h =
       to (then_last (Waiting next kind row.properties) s) t h (wait_kept next word kind row s none of_kind named argument)
   by_argument row kind of_kind named false argument h =

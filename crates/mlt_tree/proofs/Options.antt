@@ -4,12 +4,13 @@ use Rattle.std.proofs.Common.{◌≡◌, ℕ, Bool, true, false, cond, not, ◌&
 use Rattle.std.specs.List.{list_all}
 use Rattle.std.proofs.lemmas.Slice.Eq.{bytes_eq-Decides}
 use denote.Enum.Bare.{same_true, true_same}
+use Rattle.mlt_base.specs.Name.{name_of}
 use Rattle.mlt_tree.specs.contracts.group.GroupKind.{the_type}
 use Rattle.mlt_tree.specs.declared.group.GroupKind.{GroupKind}
 use Rattle.mlt_tree.specs.declared.group.GroupKind.TheVariants.{Producer}
 use Rattle.mlt_tree.specs.declared.table.Row.{Row}
 use Rattle.mlt_tree.specs.declared.table.TheConstants.{OPTIONS}
-use Rattle.mlt_tree.specs.Table.{is_kind, is_named, name_of, option_of, row_of}
+use Rattle.mlt_tree.specs.Table.{is_kind, is_named, option_of, row_of}
 use Rattle.mlt_tree.specs.Words.{is_option}
 
 -- the kind of a row, where it has one, is another than that of the row before it
@@ -73,13 +74,13 @@ pub row_of-option : (word : List ℕ) (row : Row) (kind : GroupKind) → option_
 unfolding option_of row_of
 row_of-option word row kind e k = of_kind (is_named word) kind OPTIONS row k e options-apart
 
-pub name_of-option : (word : List ℕ) (row : Row) → option_of word ≡ Some row → name_of row ≡ word
+pub name_of-option : (word : List ℕ) (row : Row) → option_of word ≡ Some row → name_of row.name ≡ word
 unfolding option_of
-name_of-option word row e = (bytes_eq-Decides (name_of row) word).0 (found (is_named word) OPTIONS row e)
+name_of-option word row e = (bytes_eq-Decides (name_of row.name) word).0 (found (is_named word) OPTIONS row e)
 
 -- a row has another name than the one before it
 abbrev is_named_apart : Row → Row → Bool
-is_named_apart row other = not (is_named (name_of other) row)
+is_named_apart row other = not (is_named (name_of other.name) row)
 
 abbrev are_named_apart : List Row → Bool
 are_named_apart [] = true
@@ -88,21 +89,21 @@ are_named_apart (row ∷ rows) = list_all (is_named_apart row) rows && are_named
 options-named_apart : are_named_apart OPTIONS ≡ true
 options-named_apart = refl
 
-its_name : (row : Row) → is_named (name_of row) row ≡ true
-its_name row = (bytes_eq-Decides (name_of row) (name_of row)).1 refl
+its_name : (row : Row) → is_named (name_of row.name) row ≡ true
+its_name row = (bytes_eq-Decides (name_of row.name) (name_of row.name)).1 refl
 
 -- of rows whose names are apart, one that is found is the one of its name
-of_name : (p : Row → Bool) (rows : List Row) (row : Row) → find p rows ≡ Some row → are_named_apart rows ≡ true → find (is_named (name_of row)) rows ≡ Some row
+of_name : (p : Row → Bool) (rows : List Row) (row : Row) → find p rows ≡ Some row → are_named_apart rows ≡ true → find (is_named (name_of row.name)) rows ≡ Some row
 of_name p [] row e apart = absurd (nothing_found row e)
 of_name p (r ∷ rows) row e apart =
     go (p r) e (of_name p rows row) (both (list_all (is_named_apart r) rows) (are_named_apart rows) apart) where
-      go : (b : Bool) → cond b (Some r) (find p rows) ≡ Some row → (find p rows ≡ Some row → are_named_apart rows ≡ true → find (is_named (name_of row)) rows ≡ Some row) → (list_all (is_named_apart r) rows ≡ true) × (are_named_apart rows ≡ true) → cond (is_named (name_of row) r) (Some r) (find (is_named (name_of row)) rows) ≡ Some row
+      go : (b : Bool) → cond b (Some r) (find p rows) ≡ Some row → (find p rows ≡ Some row → are_named_apart rows ≡ true → find (is_named (name_of row.name)) rows ≡ Some row) → (list_all (is_named_apart r) rows ≡ true) × (are_named_apart rows ≡ true) → cond (is_named (name_of row.name) r) (Some r) (find (is_named (name_of row.name)) rows) ≡ Some row
       go true e later h =
-          chosen (is_named (name_of row) r) (Some r) _ (ap (is_named (name_of row)) (same_found r row e) ∙ its_name row) ∙ e
+          chosen (is_named (name_of row.name) r) (Some r) _ (ap (is_named (name_of row.name)) (same_found r row e) ∙ its_name row) ∙ e
       go false e later h =
-          not_chosen (is_named (name_of row) r) (Some r) _ (all_found p (is_named_apart r) rows row e h.0) ∙ later e h.1
+          not_chosen (is_named (name_of row.name) r) (Some r) _ (all_found p (is_named_apart r) rows row e h.0) ∙ later e h.1
 
-pub option_of-row : (kind : GroupKind) (row : Row) → row_of kind ≡ Some row → option_of (name_of row) ≡ Some row
+pub option_of-row : (kind : GroupKind) (row : Row) → row_of kind ≡ Some row → option_of (name_of row.name) ≡ Some row
 unfolding option_of row_of
 option_of-row kind row e = of_name (λ r. is_kind kind r.kind) OPTIONS row e options-named_apart
 
@@ -114,9 +115,9 @@ kind_of-row kind row e = same row.kind (found (λ r. is_kind kind r.kind) OPTION
   same (Some other) h = ap Some (sym (same_true the_type (search rules) kind other h))
 
 -- the word of an option begins with `-` and goes on
-pub is_option-row : (kind : GroupKind) (row : Row) → row_of kind ≡ Some row → is_option (name_of row) ≡ true
+pub is_option-row : (kind : GroupKind) (row : Row) → row_of kind ≡ Some row → is_option (name_of row.name) ≡ true
 unfolding row_of
-is_option-row kind row e = all_found (λ r. is_kind kind r.kind) (λ r. is_option (name_of r)) OPTIONS row e refl
+is_option-row kind row e = all_found (λ r. is_kind kind r.kind) (λ r. is_option (name_of r.name)) OPTIONS row e refl
 
 something_found : {X : Type 0} → {x : X} → Some x ≡ None → ⊥
 something_found h = grind arith

@@ -1,12 +1,9 @@
 -- The definitions, tried on worked compositions: each line is checked by computing both of its sides.
-use Rattle.std.specs.Prelude.{◌≡◌, ◌++◌, refl, Some, codes}
-use Rattle.std.specs.List.{flat_map}
+use Rattle.std.specs.Prelude.{◌≡◌, refl, Some, codes}
 use Rattle.std.specs.Fmt.{digits}
 use Rattle.mlt_tree.specs.declared.refusal.Cause.TheVariants as cause
 use Rattle.mlt_tree.specs.Refusing.{refusal_at}
-use Rattle.mlt_base.specs.Profile.{name_of}
-use Rattle.mlt_base.specs.declared.table.TheConstants.{PROFILES}
-use Rattle.mlt_tree.specs.declared.query.QueryKind.TheVariants.{Profiles}
+use Rattle.mlt_tree.specs.declared.query.QueryKind.TheVariants.{Producers, Profiles}
 use Rattle.mlt_tree.specs.Lines.{refusal_line}
 use Rattle.mlt_tree.specs.Reading.{query_text}
 
@@ -22,6 +19,9 @@ range_line : refusal_line (refusal_at 4 (cause.BadRange 3 2 15000)) ≡ codes "m
 unfolding digits
 range_line = refl
 
--- the profiles that `-query` lists are those of the table, in its order
-profiles_listed : query_text Profiles ≡ flat_map (λ row. name_of row ++ codes "\n") PROFILES
+-- what `-query` prints
+profiles_listed : query_text Profiles ≡ codes "dv_pal\ndv_ntsc\natsc_720p_25\natsc_1080p_25\n"
 profiles_listed = refl
+
+producers_listed : query_text Producers ≡ codes "colour\ncolor\nppm\npcm\nmelt_file\n"
+producers_listed = refl

@@ -1,10 +1,11 @@
 -- What words are made up of, tried on short lists: each line is checked by computing both of its sides.
 use Rattle.std.specs.Prelude.{ℕ, ◌≡◌, refl, List, [], ◌∷◌, Option, None, Some, Ok, option_map, codes}
 use Rattle.mlt_base.specs.declared.faults.WordCause.TheVariants.{UnknownOption, Unsupported, MissingArgument, StrayProperty}
+use Rattle.mlt_base.specs.Name.{name_of}
 use Rattle.mlt_tree.specs.declared.group.Group.{Group}
 use Rattle.mlt_tree.specs.declared.group.GroupKind.{GroupKind}
 use Rattle.mlt_tree.specs.declared.group.GroupKind.TheVariants.{Producer, Split, Filter, Track, NullTrack}
-use Rattle.mlt_tree.specs.Table.{name_of, option_of, row_of}
+use Rattle.mlt_tree.specs.Table.{option_of, row_of}
 use Rattle.mlt_tree.specs.Words.{groups, step, finish, option_word, property_word, fault}
 
 -- a group without properties
@@ -79,7 +80,7 @@ stray_at_front = refl
 
 -- the word of a kind, by the table
 abbrev word_of : GroupKind → Option (List ℕ)
-word_of kind = option_map name_of (row_of kind)
+word_of kind = option_map (λ row. name_of row.name) (row_of kind)
 
 name_of_kind : word_of NullTrack ≡ Some (codes "-null-track")
 unfolding row_of

@@ -1,16 +1,19 @@
 -- Producers: what a word has made, and the clip of it at the track's end.
-use Rattle.std.specs.Prelude.{ℕ, ◌+◌, ◌-◌, ◌&&◌, nat_le, nat_lt, max, min, if◌then◌else◌, [], ◌∷◌, ◌++◌, length, Option, None, Some, unwrap_or, Result, Ok, codes}
+use Rattle.std.specs.Prelude.{ℕ, ◌+◌, ◌-◌, ◌&&◌, nat_le, nat_lt, max, min, if◌then◌else◌, [], ◌∷◌, ◌++◌, length, Option, None, Some, unwrap_or, Result, Ok}
 use Rattle.mlt_base.specs.Colour.{Pixel, colour_of}
 use Rattle.mlt_base.specs.Steps.{◌>>=◌}
 use Rattle.mlt_tree.specs.declared.group.Group.{Group}
 use Rattle.mlt_tree.specs.declared.refusal.Cause.TheVariants as cause
 use Rattle.mlt_tree.specs.declared.refusal.Refusal.{Refusal}
+use Rattle.mlt_tree.specs.declared.services.Producer.{Producer}
+use Rattle.mlt_tree.specs.declared.services.Producer.TheVariants.{Colour, Picture, Sound, Melt}
+use Rattle.mlt_tree.specs.declared.services.TheConstants as row
 use Rattle.mlt_tree.specs.Composition.{Frames, Made, State, props_of, track, with_track}
 use Rattle.mlt_tree.specs.Edits as edit
 use Rattle.mlt_tree.specs.Edits.{clip}
-use Rattle.mlt_tree.specs.Props.{last_named, read_prop, read_given, counted, timed}
+use Rattle.mlt_tree.specs.Props.{number, moment, moment_or_first}
 use Rattle.mlt_tree.specs.Refusing.{refuse, known, at_group}
-use Rattle.mlt_tree.specs.Services.{Named, Service, ColourService, PictureFile, SoundFile, MeltFile, colour_name}
+use Rattle.mlt_tree.specs.Services.{Named, colour_name}
 use Rattle.mlt_tree.specs.Show.{Source, Plain, kind_of}
 use Rattle.mlt_tree.specs.Units.{source_unit}
 
@@ -34,12 +37,12 @@ pub data Origin : Type 0 where
 
 -- the value of a service
 abbrev pub origin_of : ℕ → Named → Result Origin Refusal
-origin_of place named = by named.service where
-  by : Service → Result Origin Refusal
-  by ColourService = known place cause.BadValue (colour_of (colour_name named.arg)) >>= λ pixel. Ok (OfColour pixel)
-  by PictureFile = refuse place cause.Unsupported
-  by SoundFile = refuse place cause.Unsupported
-  by MeltFile = refuse place cause.Unsupported
+origin_of place named = by named.producer where
+  by : Producer → Result Origin Refusal
+  by Colour = known place cause.BadValue (colour_of (colour_name named.arg)) >>= λ pixel. Ok (OfColour pixel)
+  by Picture = refuse place cause.Unsupported
+  by Sound = refuse place cause.Unsupported
+  by Melt = refuse place cause.Unsupported
 
 -- the first frame and the last, and the length
 pub record Wanted : Type 0 where
@@ -49,9 +52,9 @@ pub record Wanted : Type 0 where
 
 unfoldable pub wanted_by : State → Group → Result Wanted Refusal
 wanted_by s g = do
-  first ← read_prop (timed s.frames.rate) 0 (last_named (codes "in") (props_of s g))
-  last ← read_given (timed s.frames.rate) (last_named (codes "out") (props_of s g))
-  length ← read_given (counted 1 2147483647) (last_named (codes "length") (props_of s g))
+  first ← moment_or_first row.IN s.frames.rate (props_of s g)
+  last ← moment row.OUT s.frames.rate (props_of s g)
+  length ← number row.LENGTH (props_of s g)
   Ok (record { first = first; last = last; length = length })
 
 -- ---- what it makes

@@ -1,6 +1,5 @@
 -- A composition as far as its words are read, and what one group does to it.
-use Rattle.std.specs.Prelude.{ℕ, ℤ, ◌-◌, if◌then◌else◌, List, [], ◌∷◌, ◌++◌, length, Option, None, Some, Result, Ok, codes}
-use Rattle.std.specs.Str.{bytes_eq}
+use Rattle.std.specs.Prelude.{ℕ, ℤ, ◌-◌, Bool, true, false, if◌then◌else◌, List, [], ◌∷◌, ◌++◌, length, Option, None, Some, Result, Ok}
 use Rattle.mlt_base.specs.Profile.{Measures, profile}
 use Rattle.mlt_base.specs.Steps.{◌>>=◌}
 use Rattle.mlt_base.specs.Whole.{whole}
@@ -11,9 +10,10 @@ use Rattle.mlt_tree.specs.declared.group.Prop.{Prop}
 use Rattle.mlt_tree.specs.declared.node.Node.{Node}
 use Rattle.mlt_tree.specs.declared.refusal.Cause.TheVariants as cause
 use Rattle.mlt_tree.specs.declared.refusal.Refusal.{Refusal}
+use Rattle.mlt_tree.specs.declared.services.TheConstants as row
 use Rattle.mlt_tree.specs.Edits as edit
 use Rattle.mlt_tree.specs.Edits.{Edit}
-use Rattle.mlt_tree.specs.Props.{last_named, read_prop, read_given, counted, sized, timed}
+use Rattle.mlt_tree.specs.Props.{counted, timed, count, size, choice, moment}
 use Rattle.mlt_tree.specs.Refusing.{refuse, known, at_word, at_group}
 use Rattle.mlt_tree.specs.Services.{raw_of}
 use Rattle.mlt_tree.specs.Show.{Size, Fraction, Source, Pix, Rgb, Rgba}
@@ -145,20 +145,20 @@ join s g = counted 1 100000 g.place g.arg >>= joined s g
 
 -- ---- the consumer
 
-abbrev pub pix_named : ℕ → List ℕ → Result Pix Refusal
-pix_named place text =
-    if bytes_eq text (codes "rgb") then Ok Rgb else (if bytes_eq text (codes "rgba") then Ok Rgba else refuse place cause.BadValue)
+abbrev pub pix_of : (rgba : Bool) → Pix
+pix_of true = Rgba
+pix_of false = Rgb
 
 unfoldable pub raw_output : State → Group → List ℕ → Result State Refusal
 raw_output s g video = do
-  pix ← read_prop pix_named Rgb (last_named (codes "pix") g.props)
-  workers ← read_prop (sized 16) 0 (last_named (codes "real_time") g.props)
-  buffer ← read_prop (counted 1 64) 25 (last_named (codes "buffer") g.props)
-  slices ← read_prop (counted 1 16) 1 (last_named (codes "slices") g.props)
-  cache ← read_prop (counted 0 64) 4 (last_named (codes "cache") g.props)
-  first ← read_given (timed s.frames.rate) (last_named (codes "in") g.props)
-  last ← read_given (timed s.frames.rate) (last_named (codes "out") g.props)
-  Ok (record s { consumer = Some (record { place = g.place; video = video; pix = pix; workers = workers; buffer = buffer; slices = slices; cache = cache; first = first; last = last }) })
+  rgba ← choice row.PIX g.props
+  workers ← size row.REAL_TIME g.props
+  buffer ← count row.BUFFER g.props
+  slices ← count row.SLICES g.props
+  cache ← count row.CACHE g.props
+  first ← moment row.IN s.frames.rate g.props
+  last ← moment row.OUT s.frames.rate g.props
+  Ok (record s { consumer = Some (record { place = g.place; video = video; pix = pix_of rgba; workers = workers; buffer = buffer; slices = slices; cache = cache; first = first; last = last }) })
 
 abbrev pub first_consumer : State → Group → Option Consumer → Result State Refusal
 first_consumer s g None = known g.place cause.UnknownService (raw_of g.arg) >>= raw_output s g

@@ -2,12 +2,13 @@
 use Rattle.std.specs.Prelude.{ℕ, ◌+◌, ◌<◌, ◌≤◌, ◌≡◌, ◌↔◌, Bool, true, false, if◌then◌else◌, List, [], ◌∷◌, ◌++◌, length, map, fold, max, All, Option, None, Some, Ok}
 use Rattle.std.specs.List.{flat_map, enumerate_from, list_any}
 use Rattle.std.specs.Str.{byte}
+use Rattle.mlt_base.specs.Name.{name_of}
 use Rattle.mlt_tree.specs.declared.group.TheConstants.{MOST_WORDS}
 use Rattle.mlt_tree.specs.declared.group.Group.{Group}
 use Rattle.mlt_tree.specs.declared.group.GroupKind.TheVariants.{Producer}
 use Rattle.mlt_tree.specs.declared.group.Prop.{Prop}
 use Rattle.mlt_tree.specs.declared.table.Row.{Row}
-use Rattle.mlt_tree.specs.Table.{row_of, name_of}
+use Rattle.mlt_tree.specs.Table.{row_of}
 use Rattle.mlt_tree.specs.Words.{is_option, is_equals, groups}
 
 -- the word of a property, with its place
@@ -17,7 +18,7 @@ prop_word prop = (prop.place, prop.name ++ (byte "=" ∷ prop.value))
 abbrev pub own_words_by : Group → Option Row → List (ℕ × List ℕ)
 own_words_by group None = (group.place, group.arg) ∷ []
 own_words_by group (Some row) =
-    (group.place, name_of row) ∷ (if row.argument then (group.place + 1, group.arg) ∷ [] else [])
+    (group.place, name_of row.name) ∷ (if row.argument then (group.place + 1, group.arg) ∷ [] else [])
 
 -- a producer is its word; an option its name, and then its argument where it takes one
 abbrev pub own_words : Group → List (ℕ × List ℕ)

@@ -1,11 +1,17 @@
 -- The value of a property: of several with one name the last counts, and a fault is at its own word.
-use Rattle.std.specs.Prelude.{ℕ, ◌+◌, ◌&&◌, nat_le, if◌then◌else◌, ℤ, pos, negsuc, neg_ℤ, List, fold, Option, None, Some, Result, Ok}
+use Rattle.std.specs.Prelude.{ℕ, ◌+◌, ◌&&◌, Bool, true, false, nat_le, if◌then◌else◌, ℤ, pos, negsuc, neg_ℤ, List, fold, Option, None, Some, Result, Ok}
 use Rattle.std.specs.Str.{bytes_eq}
+use Rattle.mlt_base.specs.Name.{name_of}
 use Rattle.mlt_base.specs.Time.{time}
 use Rattle.mlt_base.specs.Whole.{whole}
 use Rattle.mlt_tree.specs.declared.group.Prop.{Prop}
-use Rattle.mlt_tree.specs.declared.refusal.Cause.TheVariants.{OutOfRange}
+use Rattle.mlt_tree.specs.declared.refusal.Cause.TheVariants.{BadValue, OutOfRange}
 use Rattle.mlt_tree.specs.declared.refusal.Refusal.{Refusal}
+use Rattle.mlt_tree.specs.declared.row.Count.{Count}
+use Rattle.mlt_tree.specs.declared.row.Number.{Number}
+use Rattle.mlt_tree.specs.declared.row.Size.{Size}
+use Rattle.mlt_tree.specs.declared.row.Choice.{Choice}
+use Rattle.mlt_tree.specs.declared.row.Moment.{Moment}
 use Rattle.mlt_base.specs.Steps.{◌>>=◌}
 use Rattle.mlt_tree.specs.Refusing.{refuse, at_word}
 use Rattle.mlt_tree.specs.Show.{Fraction}
@@ -50,3 +56,34 @@ sized high place text = at_word place (whole text) >>= size_within high place
 -- a position at this rate
 unfoldable pub timed : Fraction → ℕ → List ℕ → Result ℕ Refusal
 timed rate place text = at_word place (time rate.num rate.den text)
+
+-- the first word of a row or the second: whether it is the second
+abbrev pub chosen : Choice → ℕ → List ℕ → Result Bool Refusal
+chosen row place text =
+    if bytes_eq text (name_of row.first) then Ok false else (if bytes_eq text (name_of row.second) then Ok true else refuse place BadValue)
+
+-- ---- properties by their rows
+
+-- a whole number, or its default
+abbrev pub count : Count → List Prop → Result ℕ Refusal
+count row props = read_prop (counted row.low row.high) row.default (last_named (name_of row.name) props)
+
+-- a whole number, where it is given
+abbrev pub number : Number → List Prop → Result (Option ℕ) Refusal
+number row props = read_given (counted row.low row.high) (last_named (name_of row.name) props)
+
+-- a distance from 0, or 0
+abbrev pub size : Size → List Prop → Result ℕ Refusal
+size row props = read_prop (sized row.high) 0 (last_named (name_of row.name) props)
+
+-- whether it is the second of two words
+abbrev pub choice : Choice → List Prop → Result Bool Refusal
+choice row props = read_prop (chosen row) false (last_named (name_of row.name) props)
+
+-- a position at this rate, where it is given
+abbrev pub moment : Moment → Fraction → List Prop → Result (Option ℕ) Refusal
+moment row rate props = read_given (timed rate) (last_named (name_of row.name) props)
+
+-- a position at this rate, or the first
+abbrev pub moment_or_first : Moment → Fraction → List Prop → Result ℕ Refusal
+moment_or_first row rate props = read_prop (timed rate) 0 (last_named (name_of row.name) props)

@@ -1,5 +1,5 @@
 -- What a list of words means.
-use Rattle.std.specs.Prelude.{ℕ, Bool, if◌then◌else◌, List, [], ◌∷◌, length, Option, None, Some, Result, Ok, Err, find, codes}
+use Rattle.std.specs.Prelude.{ℕ, Bool, if◌then◌else◌, List, [], ◌∷◌, length, map, Option, None, Some, Result, Ok, Err, find, codes}
 use Rattle.std.specs.List.{list_any}
 use Rattle.std.specs.Option.{option_map}
 use Rattle.std.specs.Str.{bytes_eq}
@@ -8,6 +8,7 @@ use Rattle.mlt_base.specs.declared.faults.WordCause.{WordCause}
 use Rattle.mlt_base.specs.declared.faults.WordCause.TheVariants as word
 use Rattle.mlt_base.specs.declared.port.Port.{Port}
 use Rattle.mlt_base.specs.declared.port.Port.TheVariants.{Text}
+use Rattle.mlt_base.specs.declared.table.TheConstants.{PROFILES}
 use Rattle.mlt_tree.specs.declared.group.Group.{Group}
 use Rattle.mlt_tree.specs.declared.group.GroupKind.{GroupKind}
 use Rattle.mlt_tree.specs.declared.group.GroupKind.TheVariants as kind
@@ -16,10 +17,12 @@ use Rattle.mlt_tree.specs.declared.query.QueryKind.TheVariants.{Producers, Filte
 use Rattle.mlt_tree.specs.declared.refusal.Cause.{Cause}
 use Rattle.mlt_tree.specs.declared.refusal.Cause.TheVariants as cause
 use Rattle.mlt_tree.specs.declared.refusal.Refusal.{Refusal}
+use Rattle.mlt_tree.specs.declared.services.TheConstants.{PRODUCERS, CONSUMERS, FILTERS, MERGES}
 use Rattle.mlt_tree.specs.Composing.{show_of}
 use Rattle.mlt_tree.specs.Loading.{Files, no_files, Load, Stop, Read, done, plainly, ◌>>=◌}
 use Rattle.mlt_tree.specs.Meaning.{or_under}
 use Rattle.mlt_tree.specs.Refusing.{refuse, known, over}
+use Rattle.mlt_tree.specs.Services.{listed}
 use Rattle.mlt_tree.specs.Show.{Show, output_of, prefix, written_frames}
 use Rattle.mlt_tree.specs.Table.{is_kind}
 use Rattle.mlt_tree.specs.Words.{groups}
@@ -130,12 +133,11 @@ written (Err stop) port = None
 
 -- the names that are asked for, each with a line end
 abbrev pub query_text : QueryKind → List ℕ
-query_text Producers = codes "colour\ncolor\nppm\npcm\nmelt_file\n"
-query_text Filters =
-    codes "brightness\ngreyscale\ninvert\nmirror\ncrop\nthreshold\nsepia\nobscure\nopacity\nswapchannels\nvolume\nmono\nchannelcopy\nchannelswap\nsilence\n"
-query_text Transitions = codes "luma\ncomposite\nmatte\nmix\nsum\n"
-query_text Consumers = codes "raw\n"
-query_text Profiles = codes "dv_pal\ndv_ntsc\natsc_720p_25\natsc_1080p_25\n"
+query_text Producers = listed (map (λ row. row.name) PRODUCERS)
+query_text Filters = listed FILTERS
+query_text Transitions = listed MERGES
+query_text Consumers = listed CONSUMERS
+query_text Profiles = listed (map (λ row. row.name) PROFILES)
 
 abbrev pub job_text : TextJob → List ℕ
 job_text Version = codes "melt 1.0.0\n"

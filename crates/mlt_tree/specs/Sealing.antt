@@ -7,6 +7,7 @@ use Rattle.mlt_tree.specs.declared.node.Node.{Node}
 use Rattle.mlt_tree.specs.declared.refusal.Cause.TheVariants as cause
 use Rattle.mlt_tree.specs.declared.refusal.Refusal.{Refusal}
 use Rattle.mlt_tree.specs.Clips.{Cut, cut_of}
+use Rattle.mlt_tree.specs.declared.services.TheConstants as row
 use Rattle.mlt_tree.specs.Composition.{Frames, Consumer, State, profile_step, default_frames}
 use Rattle.mlt_tree.specs.Refusing.{refuse, over}
 use Rattle.mlt_tree.specs.Show.{Show, Settings, Source, Rgb, S16, pixels_of}
@@ -40,9 +41,9 @@ default_consumer = record {
   video = codes "-";
   pix = Rgb;
   workers = 0;
-  buffer = 25;
-  slices = 1;
-  cache = 4;
+  buffer = row.BUFFER.default;
+  slices = row.SLICES.default;
+  cache = row.CACHE.default;
   first = None;
   last = None;
 }

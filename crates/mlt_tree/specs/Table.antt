@@ -1,22 +1,15 @@
 -- The options, by their words and by their kinds.
-use Rattle.std.specs.Prelude.{ℕ, ◌==◌, Bool, false, List, Option, None, Some, find}
-use Rattle.std.specs.List.{before_first}
-use Rattle.std.specs.Str.{bytes_eq, byte}
+use Rattle.std.specs.Prelude.{ℕ, Bool, false, List, Option, None, Some, find}
+use Rattle.std.specs.Str.{bytes_eq}
 use denote.Enum.Bare.{sameb}
+use Rattle.mlt_base.specs.Name.{name_of}
 use Rattle.mlt_tree.specs.contracts.group.GroupKind.{the_type}
 use Rattle.mlt_tree.specs.declared.group.GroupKind.{GroupKind}
 use Rattle.mlt_tree.specs.declared.table.Row.{Row}
 use Rattle.mlt_tree.specs.declared.table.TheConstants.{OPTIONS}
 
-abbrev pub is_blank : ℕ → Bool
-is_blank c = c == byte " "
-
--- the word of an option
-abbrev pub name_of : Row → List ℕ
-name_of row = before_first is_blank row.name
-
 abbrev pub is_named : List ℕ → Row → Bool
-is_named word row = bytes_eq (name_of row) word
+is_named word row = bytes_eq (name_of row.name) word
 
 -- the option of this word
 unfoldable pub option_of : List ℕ → Option Row

@@ -13,8 +13,10 @@ use Rattle.mlt_tree.specs.declared.node.Node.{Node}
 use Rattle.mlt_tree.specs.declared.node.Track.{Track as TrackOf}
 use Rattle.mlt_tree.specs.declared.refusal.Cause.TheVariants as cause
 use Rattle.mlt_tree.specs.declared.refusal.Refusal.{Refusal}
+use Rattle.mlt_tree.specs.declared.services.Producer.{Producer}
+use Rattle.mlt_tree.specs.declared.services.Producer.TheVariants.{Colour, Picture, Sound, Melt}
 use Rattle.mlt_tree.specs.Refusing.{refuse}
-use Rattle.mlt_tree.specs.Services.{Named, Service, ColourService, PictureFile, SoundFile, MeltFile, producer_of, raw_of}
+use Rattle.mlt_tree.specs.Services.{Named, producer_of, raw_of}
 use Rattle.mlt_tree.specs.Show.{Show}
 use Rattle.mlt_tree.specs.Tree.{Tree, Parts, Tracks, Src, Blank, Part, Seq, With, Rows, End, Then, NoTrack, Track}
 
@@ -24,12 +26,12 @@ is_later_prop p = bytes_eq p.name (codes "audio") || bytes_eq p.name (codes "cha
 
 abbrev pub is_colour : Option Named → Bool
 is_colour None = true
-is_colour (Some named) = by named.service where
-  by : Service → Bool
-  by ColourService = true
-  by PictureFile = false
-  by SoundFile = false
-  by MeltFile = false
+is_colour (Some named) = by named.producer where
+  by : Producer → Bool
+  by Colour = true
+  by Picture = false
+  by Sound = false
+  by Melt = false
 
 -- a producer of a colour; one of an unknown service is refused as that
 abbrev pub producer_built : Group → Result (Unit {0}) Refusal

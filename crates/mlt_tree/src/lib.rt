@@ -16,6 +16,8 @@ pub mod merge;
 pub mod node;
 pub mod query;
 pub mod refusal;
+pub mod row;
+pub mod services;
 pub mod table;
 pub mod tree;
 
@@ -28,5 +30,7 @@ pub use merge::{MergeSpec, MergeStep};
 pub use node::{Body, Node, Track};
 pub use query::QueryKind;
 pub use refusal::{Cause, Refusal};
+pub use row::{Choice, Count, Moment, Number, Property, Size};
+pub use services::Producer;
 pub use table::{OPTIONS, Row};
 pub use tree::{Attached, Hide, Plant, SourceKind};

@@ -1,13 +1,12 @@
 //! The table of options, which the definition of what words say and the code that reads them share.
 
 use crate::group::GroupKind;
+use mlt_base::Name;
 
-/// What an option is.
-///
-/// The name has blanks behind it. No kind means that the option is known and not supported.
+/// What an option is. No kind means that the option is known and not supported.
 #[derive(Clone, Copy, Debug)]
 pub struct Row {
-    pub name: [u8; 13],
+    pub name: Name,
     pub kind: Option<GroupKind>,
     pub argument: bool,
     pub properties: bool,
@@ -16,19 +15,19 @@ pub struct Row {
 /// The row of an option: its name, its kind if it is supported, and what it takes.
 macro_rules! option {
     ($name:literal) => {
-        Row { name: *$name, kind: None, argument: false, properties: false }
+        Row { name: Name(*$name), kind: None, argument: false, properties: false }
     };
     ($name:literal, $kind:ident) => {
-        Row { name: *$name, kind: Some(GroupKind::$kind), argument: false, properties: false }
+        Row { name: Name(*$name), kind: Some(GroupKind::$kind), argument: false, properties: false }
     };
     ($name:literal, $kind:ident, argument) => {
-        Row { name: *$name, kind: Some(GroupKind::$kind), argument: true, properties: false }
+        Row { name: Name(*$name), kind: Some(GroupKind::$kind), argument: true, properties: false }
     };
     ($name:literal, $kind:ident, properties) => {
-        Row { name: *$name, kind: Some(GroupKind::$kind), argument: false, properties: true }
+        Row { name: Name(*$name), kind: Some(GroupKind::$kind), argument: false, properties: true }
     };
     ($name:literal, $kind:ident, argument, properties) => {
-        Row { name: *$name, kind: Some(GroupKind::$kind), argument: true, properties: true }
+        Row { name: Name(*$name), kind: Some(GroupKind::$kind), argument: true, properties: true }
     };
 }
 

@@ -1,0 +1,51 @@
+//! Properties: each is a name with the kind of value that it takes.
+
+use mlt_base::Name;
+
+/// A whole number from `low` to `high`, with a default.
+#[derive(Clone, Copy, Debug)]
+pub struct Count {
+    pub name: Name,
+    pub low: u32,
+    pub high: u32,
+    pub default: u32,
+}
+
+/// A whole number from `low` to `high`, which may be left out.
+#[derive(Clone, Copy, Debug)]
+pub struct Number {
+    pub name: Name,
+    pub low: u32,
+    pub high: u32,
+}
+
+/// A whole number whose distance from 0 counts, at most `high`; 0 by default.
+#[derive(Clone, Copy, Debug)]
+pub struct Size {
+    pub name: Name,
+    pub high: u32,
+}
+
+/// One of two words, the first by default.
+#[derive(Clone, Copy, Debug)]
+pub struct Choice {
+    pub name: Name,
+    pub first: Name,
+    pub second: Name,
+}
+
+/// A time, which may be left out.
+#[derive(Clone, Copy, Debug)]
+pub struct Moment {
+    pub name: Name,
+}
+
+/// A property, by the kind of its value.
+#[derive(Clone, Copy, Debug)]
+pub enum Property {
+    Count(Count),
+    Number(Number),
+    Size(Size),
+    Choice(Choice),
+    Moment(Moment),
+}
