@@ -6,7 +6,7 @@ ghost use Rattle.mlt_tree.specs.GroupWords.{IsAllowed};
 use super::*;
 use melt_words::groups;
 use mlt_base::SourceNo;
-use mlt_graph::Format;
+use mlt_graph::{Format, Pix};
 use mlt_host::CalmHost;
 use mlt_tree::{Cause, GroupList};
 use std::alloc::Global;
@@ -80,6 +80,83 @@ fn counts_the_words_of_its_groups(rt: HostRuntime) -> Result<(), Fail> {
                 };
                 assert_eq!(rt; fault, BuildFault::Refused(refusal), "{line}");
             }
+        }
+    }
+    Ok(())
+}
+
+#[test]
+fn reads_each_property_at_its_ends(rt: HostRuntime) -> Result<(), Fail> {
+    let alloc = rt.alloc();
+    // The properties of `raw`, and the threads, buffers, slices, pictures and pixels that they ask for.
+    let rows: [(&str, (u32, u32, u32, u32, Pix)); 5] = [
+        ("", (0, 25, 1, 4, Pix::Rgb)),
+        (" pix=rgba", (0, 25, 1, 4, Pix::Rgba)),
+        (
+            " pix=rgb real_time=-16 buffer=1 slices=1 cache=0",
+            (16, 1, 1, 0, Pix::Rgb),
+        ),
+        (
+            " real_time=16 buffer=64 slices=16 cache=64",
+            (16, 64, 16, 64, Pix::Rgb),
+        ),
+        (" cache=64 cache=3", (0, 25, 1, 3, Pix::Rgb)),
+    ];
+    for (props, wanted) in rows {
+        let line = format!(in alloc;
+            "-profile 1x1@25/1 -consumer raw:v{props} colour:red length=1"
+        )?;
+        let list = read(alloc, line.as_str())?;
+        let mut host = CalmHost::new(alloc);
+        let Ok((show, _)) = build(alloc, &list, &mut host) else {
+            return Err(Fail::new("not built"));
+        };
+        let output = &show.output;
+        let read = (
+            output.workers,
+            output.buffer,
+            output.slices,
+            output.cache,
+            output.pix,
+        );
+        assert_eq!(rt; read, wanted, "{props}");
+    }
+    Ok(())
+}
+
+#[test]
+fn refuses_each_property_past_its_ends(rt: HostRuntime) -> Result<(), Fail> {
+    let alloc = rt.alloc();
+    // A property of the word at place 4, its value, and its ends.
+    let rows: [(&str, i64, i64, i64); 10] = [
+        ("-consumer raw:v real_time=-17", -17, -16, 16),
+        ("-consumer raw:v real_time=17", 17, -16, 16),
+        ("-consumer raw:v buffer=0", 0, 1, 64),
+        ("-consumer raw:v buffer=65", 65, 1, 64),
+        ("-consumer raw:v slices=0", 0, 1, 16),
+        ("-consumer raw:v slices=17", 17, 1, 16),
+        ("-consumer raw:v cache=-1", -1, 0, 64),
+        ("-consumer raw:v cache=65", 65, 0, 64),
+        ("-quiet colour:red length=0", 0, 1, 2147483647),
+        (
+            "-quiet colour:red length=2147483648",
+            2147483648,
+            1,
+            2147483647,
+        ),
+    ];
+    for (words, value, low, high) in rows {
+        let line = format!(in alloc; "-profile 1x1@25/1 {words} colour:red")?;
+        let list = read(alloc, line.as_str())?;
+        let mut host = CalmHost::new(alloc);
+        let wanted = BuildFault::Refused(mlt_tree::Refusal {
+            word: 4,
+            inner: None,
+            cause: Cause::OutOfRange { value, low, high },
+        });
+        match build(alloc, &list, &mut host) {
+            Ok(_) => return Err(Fail::new("built")),
+            Err(fault) => assert_eq!(rt; fault, wanted, "{words}"),
         }
     }
     Ok(())
