@@ -2,7 +2,7 @@
 use Rattle.std.proofs.Common.{◌≡◌, ℕ, ◌+◌, ◌≤◌, Bool, true, false, cond, List, [], ◌∷◌, ◌++◌, length, take, Option, Some, None, option_to_list, option_and_then, bytes_eq, nat_eq, is_none, ◌&&◌, refl, sym, ap, ◌∙◌, append_assoc, append-nil, if◌then◌else◌, pos, arith}
 use Rattle.std.proofs.Math.Seq.{take-append_seam}
 use Rattle.std.specs.List.{cons_option, starts_with}
-use Rattle.mlt_props.specs.Entries.{Content, Entries, as_owned, value_of, owned_of, all_owned, set_at, set_all, replaced, is_passed, passed, Sets, SetsAll, SetsSome}
+use Rattle.mlt_props.specs.Entries.{Content, Entries, as_owned, value_of, owned_of, all_owned, set_at, set_all, replaced, is_passed, passed, SetsAll, SetsSome}
 use Rattle.mlt_props.specs.Entries.Content.{Whole}
 use Rattle.mlt_props.proofs.OwnedLemmas.{length-option_to_list}
 
@@ -43,11 +43,6 @@ module _ {D : Type 0} where
 
   pub sets_none : (es : Entries D) (bin : List D) → SetsAll [] es es bin bin
   sets_none es bin = record { entries = refl; ended = sym (append-nil bin) }
-
-  pub sets_one : (name : List ℕ) (value : Content D) (old new : Entries D) (bin bin' : List D) → Sets name value old new bin bin'
-      → SetsAll ((name, value) ∷ []) old new bin bin'
-  sets_one name value old new bin bin' one =
-      record { entries = one.entries; ended = one.ended ∙ ap (λ values. bin ++ values) (sym (append-nil (option_to_list (owned_of old name)))) }
 
   pub sets_more : (first rest : Entries D) (old mid new : Entries D) (bin bin' bin'' : List D) → SetsAll first old mid bin bin' → SetsAll rest mid new bin' bin''
       → SetsAll (first ++ rest) old new bin bin''

@@ -1,10 +1,10 @@
 //! Properties by name, in order.
 
-ghost use Rattle.std.specs.Prelude.{◌≡◌, ◌+◌, ◌<◌, ◌≤◌, ◌↔◌, ◌++◌, [], ◌∷◌, length, Err, slice_get, is_some, option_map, option_copied, option_to_list, IsSome, IfNone, OnSome, IfErr, OnOk, OnErr};
+ghost use Rattle.std.specs.Prelude.{◌≡◌, ◌+◌, ◌<◌, ◌≤◌, ◌↔◌, ◌++◌, [], ◌∷◌, length, Err, slice_get, is_some, option_map, option_copied, option_to_list, IsSome, IsNone, IfNone, OnSome, IfErr, OnOk, OnErr};
 ghost use Rattle.mlt_base.specs.declared.refusal.Try.TheVariants.{Fault};
 ghost use Rattle.mlt_props.specs.BadName.{bad_name};
 ghost use Rattle.mlt_props.specs.Contents.{content};
-ghost use Rattle.mlt_props.specs.Entries.{Sets, SetsAll, SetsSome, HasDistinctNames, text_of, number_of, owned_of, all_owned, without, passed};
+ghost use Rattle.mlt_props.specs.Entries.{Sets, SetsAll, SetsSome, HasDistinctNames, text_of, number_of, owned_of, as_owned, all_owned, without, passed};
 ghost use Rattle.mlt_props.specs.Entries.Content.{Words, Whole, Kept};
 
 use crate::bin::{Bin, Ends};
@@ -67,10 +67,9 @@ impl<D: Ends> Bag<D> {
     pub fn get_text(&self, name: &str) -> Option<&str>
         ensures { option_copied result ≡ text_of self.now name.now }
     {
-        match held::find(&self.entries, name)? {
+        match held::value_of(&self.entries, name)? {
             Held::Text(text) => Some(text.as_str()),
-            Held::Int(_) => None,
-            Held::Owned(_) => None,
+            Held::Int(_) | Held::Owned(_) => None,
         }
     }
 
@@ -78,10 +77,9 @@ impl<D: Ends> Bag<D> {
     pub fn get_int(&self, name: &str) -> Option<i64>
         ensures { result ≡ number_of self.now name.now }
     {
-        match held::find(&self.entries, name)? {
-            Held::Text(_) => None,
+        match held::value_of(&self.entries, name)? {
             Held::Int(number) => Some(*number),
-            Held::Owned(_) => None,
+            Held::Text(_) | Held::Owned(_) => None,
         }
     }
 
@@ -110,16 +108,9 @@ impl<D: Ends> Bag<D> {
         if name.is_empty() {
             return Err(Try::Fault(BadName));
         }
-        let Ok(text) = String::from_str(*self.entries.allocator(), text) else {
-            return Err(Try::Memory);
-        };
-        match self.set(name, Held::Text(text), bin) {
-            Ok(()) => Ok(()),
-            Err(held) => {
-                held::discard(held);
-                Err(Try::Memory)
-            }
-        }
+        let text = String::from_str(*self.entries.allocator(), text)?;
+        self.set_unowned(name, Held::Text(text), bin)?;
+        Ok(())
     }
 
     /// Sets a name to a whole number. A name that is there keeps its place, a new one goes last. An owned
@@ -147,13 +138,8 @@ impl<D: Ends> Bag<D> {
         if name.is_empty() {
             return Err(Try::Fault(BadName));
         }
-        match self.set(name, Held::Int(value), bin) {
-            Ok(()) => Ok(()),
-            Err(held) => {
-                held::discard(held);
-                Err(Try::Memory)
-            }
-        }
+        self.set_unowned(name, Held::Int(value), bin)?;
+        Ok(())
     }
 
     /// Sets a name to an owned value. A name that is there keeps its place, a new one goes last. An owned
@@ -198,7 +184,7 @@ impl<D: Ends> Bag<D> {
         if !self.owns(name) {
             return None;
         }
-        held::into_owned(held::remove(&mut self.entries, name)?)
+        held::as_owned(held::remove(&mut self.entries, name)?)
     }
 
     /// Sets, in order, each text and whole number of another bag whose name begins with the prefix, as
@@ -247,8 +233,7 @@ impl<D: Ends> Bag<D> {
         entries.destroy_empty();
     }
 
-    // Sets a name, empty or not, and puts an owned value that it had before into the bin. Where memory
-    // is wanted, the new value comes back.
+    /// Sets a name, empty or not, to a value, which comes back where memory is wanted.
     fn set<B: Bin<D>>(&mut self, name: &str, value: Held<D>, bin: &mut B) -> Result<(), Held<D>>
         requires { length (option_to_list (owned_of self.old name.now)) ≤ B.free bin.old }
         ensures set { OnOk result (Sets name.now (content value) self.old self.new (B.ended bin.old) (B.ended bin.new)) }
@@ -264,17 +249,36 @@ impl<D: Ends> Bag<D> {
         Ok(())
     }
 
-    // Whether an owned value has the name.
-    fn owns(&self, name: &str) -> bool
-        ensures { result ≡ is_some (owned_of self.now name.now) }
+    /// Sets a name, empty or not, to a text or a whole number.
+    fn set_unowned<B: Bin<D>>(
+        &mut self,
+        name: &str,
+        value: Held<D>,
+        bin: &mut B,
+    ) -> Result<(), AllocError>
+        requires room { length (option_to_list (owned_of self.old name.now)) ≤ B.free bin.old }
+        requires unowned { IsNone (as_owned (content value)) }
+        ensures set { OnOk result (Sets name.now (content value) self.old self.new (B.ended bin.old) (B.ended bin.new)) }
+        ensures same { OnErr result (self.new ≡ self.old) }
+        ensures bin_same { OnErr result (B.ended bin.new ≡ B.ended bin.old) }
+        ensures places { B.free bin.new + length (B.ended bin.new) ≡ B.free bin.old + length (B.ended bin.old) }
+        ensures grows { length self.new ≤ length self.old + 1 }
     {
-        match held::find(&self.entries, name) {
-            Some(held) => held::is_owned(held),
-            None => false,
+        match self.set(name, value, bin) {
+            Ok(()) => Ok(()),
+            Err(Held::Text(_) | Held::Int(_)) => Err(AllocError),
+            Err(Held::Owned(_value)) => unreachable!(),
         }
     }
 
-    // Sets a property of another bag, where it is passed.
+    /// Whether an owned value has the name.
+    fn owns(&self, name: &str) -> bool
+        ensures { result ≡ is_some (owned_of self.now name.now) }
+    {
+        held::value_of(&self.entries, name).is_some_and(held::is_owned)
+    }
+
+    /// Sets a property of another bag, where it is passed.
     fn pass_one<B: Bin<D>>(
         &mut self,
         prefix: &str,
@@ -294,12 +298,7 @@ impl<D: Ends> Bag<D> {
             return Ok(());
         }
         let copy = held::copy(*self.entries.allocator(), value)?;
-        match self.set(name, copy, bin) {
-            Ok(()) => Ok(()),
-            Err(copy) => {
-                held::discard(copy);
-                Err(AllocError)
-            }
-        }
+        self.set_unowned(name, copy, bin)?;
+        Ok(())
     }
 }

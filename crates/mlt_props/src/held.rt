@@ -17,13 +17,12 @@ pub enum Held<D> {
 }
 
 /// The owned value, where it is one.
-pub(crate) fn into_owned<D: Ends>(held: Held<D>) -> Option<D>
+pub(crate) fn as_owned<D: Ends>(held: Held<D>) -> Option<D>
     ensures { result ≡ as_owned (content held) }
 {
     match held {
         Held::Owned(value) => Some(value),
-        Held::Text(_) => None,
-        Held::Int(_) => None,
+        Held::Text(_) | Held::Int(_) => None,
     }
 }
 
@@ -32,18 +31,7 @@ pub(crate) fn owned<D: Ends>(held: Held<D>) -> D
     requires { IsSome (as_owned (content held)) }
     ensures { Some result ≡ as_owned (content held) }
 {
-    into_owned(held).unwrap()
-}
-
-/// Lets go of what is no owned value.
-pub(crate) fn discard<D: Ends>(held: Held<D>)
-    requires { IsNone (as_owned (content held)) }
-{
-    match held {
-        Held::Text(_) => {}
-        Held::Int(_) => {}
-        Held::Owned(_value) => unreachable!(),
-    }
+    as_owned(held).unwrap()
 }
 
 /// Whether it is a text or a whole number, and its name begins with the prefix.
@@ -58,8 +46,7 @@ pub(crate) fn is_owned<D: Ends>(held: &Held<D>) -> bool
     ensures { result ≡ is_some (as_owned (content held.now)) }
 {
     match held {
-        Held::Text(_) => false,
-        Held::Int(_) => false,
+        Held::Text(_) | Held::Int(_) => false,
         Held::Owned(_) => true,
     }
 }
@@ -82,13 +69,13 @@ pub(crate) fn end<D: Ends, B: Bin<D>>(held: Held<D>, bin: &mut B)
     ensures ended { B.ended bin.new ≡ B.ended bin.old ++ option_to_list (as_owned (content held)) }
     ensures places { B.free bin.new + length (B.ended bin.new) ≡ B.free bin.old + length (B.ended bin.old) }
 {
-    if let Some(value) = into_owned(held) {
+    if let Some(value) = as_owned(held) {
         bin.put(value);
     }
 }
 
 /// The value of a name.
-pub(crate) fn find<'a, D: Ends>(
+pub(crate) fn value_of<'a, D: Ends>(
     entries: &'a IndexMap<String, Held<D>>,
     name: &str,
 ) -> Option<&'a Held<D>>
@@ -97,8 +84,7 @@ pub(crate) fn find<'a, D: Ends>(
     entries.get(name)
 }
 
-/// Sets a name, and hands back the value that it had before. Where memory is wanted, the new value
-/// comes back.
+/// Sets a name, and gives the value that it had before, or the new one where memory is wanted.
 pub(crate) fn replace<D: Ends>(
     entries: &mut IndexMap<String, Held<D>>,
     name: &str,
@@ -125,7 +111,7 @@ pub(crate) fn replace<D: Ends>(
     }
 }
 
-/// Removes a name, and hands out its value. The others keep their order.
+/// Takes a name out, and gives its value.
 pub(crate) fn remove<D: Ends>(
     entries: &mut IndexMap<String, Held<D>>,
     name: &str,
