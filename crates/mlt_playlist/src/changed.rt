@@ -15,7 +15,7 @@ use mlt_tree::{Attached, Entry};
 use std::alloc::AllocError;
 use std::mem;
 
-// Whether an entry can have the frames first to last, of a unit of so many where it is a clip.
+/// Whether an entry can have the frames first to last, of a unit of so many where it is a clip.
 fn is_within(entry: &Entry, first: u32, last: u32, length: u32) -> bool
     ensures { result ≡ is_within entry.now first last length }
 {
@@ -25,7 +25,7 @@ fn is_within(entry: &Entry, first: u32, last: u32, length: u32) -> bool
     }
 }
 
-// Gives an entry the frames first to last.
+/// Gives an entry the frames first to last.
 fn resize(entry: &mut Entry, first: u32, last: u32)
     requires { (first ≤ last) × (last + 1 - first < 2 ^ 32) }
     ensures { entry.new ≡ resized entry.old first last }
@@ -41,7 +41,7 @@ fn resize(entry: &mut Entry, first: u32, last: u32)
     }
 }
 
-// Puts a filter behind those of a clip; a gap has none.
+/// Puts a filter behind those of a clip; a gap has none.
 fn push_filter(entry: &mut Entry, filter: Attached) -> Result<(), AllocError>
     ensures ok { OnOk result (entry.new ≡ with_filter entry.old filter) }
     ensures err { OnErr result (entry.new ≡ entry.old) }

@@ -35,7 +35,7 @@ pub(crate) fn total(entries: &[Entry]) -> u64
     all
 }
 
-// The frames a to before b of a span.
+/// The frames a to before b of a span.
 fn part(whole: Span, a: u32, b: u32) -> Span
     requires { (a < b) × (b ≤ whole.last.0 + 1 - whole.first.0) }
     ensures { result ≡ span (whole.first.0 + a) (whole.first.0 + b - 1) }
@@ -51,18 +51,9 @@ pub(crate) fn copy_part(entry: &Entry, a: u32, b: u32) -> Result<Entry, AllocErr
     requires { (a < b) × (b ≤ frames entry.now) }
     ensures { IfOk result (λ half. half ≡ cut entry.now a b) }
 {
-    Ok(match entry {
-        Entry::Clip {
-            unit,
-            span,
-            filters,
-        } => Entry::Clip {
-            unit: *unit,
-            span: part(*span, a, b),
-            filters: filters.copy()?,
-        },
-        Entry::Gap { frames: _ } => Entry::Gap { frames: b - a },
-    })
+    let mut half = entry.copy()?;
+    narrow(&mut half, a, b);
+    Ok(half)
 }
 
 /// Leaves of an entry its frames from a to before b, with the filters that it has.

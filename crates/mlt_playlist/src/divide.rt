@@ -25,7 +25,7 @@ pub(crate) fn sized(count: usize, frames: u64) -> Result<u32, PlayFault>
     length_of(frames)
 }
 
-// How many entries there are, none or one, and how many frames.
+/// How many entries there are, none or one, and how many frames.
 fn size_of_some(entry: &Option<Entry>) -> (usize, u64)
     ensures count { result.0 ≡ length (option_to_list entry.now) }
     ensures frames { result.1 ≡ frames_in (option_to_list entry.now) }
@@ -51,7 +51,7 @@ pub(crate) fn insert_reserved(entries: &mut Vec<Entry>, at: usize, entry: Entry)
     }
 }
 
-// Puts an entry at an index, if there is one, where there is room for it.
+/// Puts an entry at an index, if there is one, where there is room for it.
 fn insert_some(entries: &mut Vec<Entry>, at: usize, entry: Option<Entry>)
     requires { (at ≤ length entries.old.items) × (vec_len entries.old + length (option_to_list entry) ≤ vec_capacity entries.old) }
     ensures { entries.new.items ≡ replaced entries.old.items at 0 (option_to_list entry) }
@@ -61,8 +61,7 @@ fn insert_some(entries: &mut Vec<Entry>, at: usize, entry: Option<Entry>)
     }
 }
 
-// Leaves of an entry its frames before a place, and puts another entry, if there is one, and its
-// frames from a place on behind them. Where memory is wanted, the entries are as they were.
+/// Cuts an entry in two, with another, if there is one, between them; all or nothing is done.
 fn cut_in_two(
     entries: &mut Vec<Entry>,
     at: usize,
@@ -85,7 +84,7 @@ fn cut_in_two(
     Ok(())
 }
 
-// How many frames the entries would have where one is so cut in two; or why that is refused.
+/// How many frames the entries would have where one is so cut in two, or why that is refused.
 fn fits(
     entries: &[Entry],
     frames: u32,

@@ -11,7 +11,7 @@ use crate::playlist::Playlist;
 use mlt_base::{PlayFault, Try};
 use mlt_tree::Entry;
 
-// The frames of two gaps together; `None` where one is a clip.
+/// The frames of two gaps together; `None` where one is a clip.
 fn both_gaps(a: &Entry, b: &Entry) -> Option<u32>
     requires { frames a.now + frames b.now < 2 ^ 31 }
     ensures { result ≡ both_gaps a.now b.now }
@@ -22,8 +22,7 @@ fn both_gaps(a: &Entry, b: &Entry) -> Option<u32>
     }
 }
 
-// Keeps one more entry behind the first ones, as one gap with the last of them where both are gaps;
-// how many are kept then.
+/// Keeps one more entry behind the first ones, two gaps as one, and gives how many are kept then.
 fn keep_one(entries: &mut [Entry], kept: usize, at: usize) -> usize
     requires range { (kept ≤ at) × (at < length entries.old) }
     requires short { frames_in (take kept entries.old) + frames_in (drop at entries.old) < 2 ^ 31 }
@@ -44,7 +43,7 @@ fn keep_one(entries: &mut [Entry], kept: usize, at: usize) -> usize
     kept
 }
 
-// Makes neighbouring gaps one, and brings what is left to the front; how many entries that are.
+/// Makes neighbouring gaps one, brings what is left to the front, and gives how many entries it is.
 fn merge_front(entries: &mut [Entry]) -> usize
     requires { frames_in entries.old < 2 ^ 31 }
     ensures merged { take result entries.new ≡ merged entries.old }
@@ -57,7 +56,7 @@ fn merge_front(entries: &mut [Entry]) -> usize
     kept
 }
 
-// Makes neighbouring gaps one.
+/// Makes neighbouring gaps one.
 fn merge(entries: &mut Vec<Entry>)
     requires { frames_in entries.old.items < 2 ^ 31 }
     ensures { entries.new.items ≡ merged entries.old.items }
@@ -66,7 +65,7 @@ fn merge(entries: &mut Vec<Entry>)
     entries.truncate(kept);
 }
 
-// Lets the last entry go where it is a gap; how many frames it had.
+/// Lets the last entry go where it is a gap, and gives how many frames it had.
 fn drop_last_gap(entries: &mut Vec<Entry>) -> u32
     ensures list { entries.new.items ≡ without_last_gap entries.old.items }
     ensures frames { frames_in entries.new.items + result ≡ frames_in entries.old.items }

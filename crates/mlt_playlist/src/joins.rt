@@ -29,7 +29,7 @@ pub(crate) fn whole(alloc: Global, unit: UnitId, frames: u32) -> Entry
     }
 }
 
-// So many copies of an entry.
+/// So many copies of an entry.
 fn copies(alloc: Global, entry: &Entry, n: usize) -> Result<Vec<Entry>, AllocError>
     ensures { IfOk result (λ copies. copies.items ≡ replicate n entry.now) }
 {
@@ -40,7 +40,7 @@ fn copies(alloc: Global, entry: &Entry, n: usize) -> Result<Vec<Entry>, AllocErr
     Ok(all)
 }
 
-// How many frames the entries would have with n of one in its place; or why that is refused.
+/// How many frames the entries would have with n of one in its place, or why that is refused.
 fn fits(entries: &[Entry], frames: u32, at: usize, n: u32) -> Result<u32, PlayFault>
     requires counted { IsCounted entries.now frames }
     requires there { at < length entries.now }

@@ -24,7 +24,7 @@ pub(crate) fn find(entries: &[Entry], at: u32) -> Option<(usize, u32)>
     None
 }
 
-// A copy of the entries.
+/// A copy of the entries.
 fn copy(alloc: Global, entries: &[Entry]) -> Result<EntryList, AllocError>
     ensures { IfOk result (λ list. list ≡ entries.now) }
 {

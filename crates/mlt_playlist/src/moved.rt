@@ -11,7 +11,7 @@ use crate::refused::{bad_clip, too_few};
 use mlt_base::{PlayFault, Try};
 use mlt_tree::Entry;
 
-// Moves the entry at an index behind those up to another index.
+/// Moves the entry at an index behind those up to another index.
 fn move_behind(entries: &mut [Entry], from: usize, to: usize)
     requires { (from ≤ to) × (to < length entries.old) }
     ensures moved { entries.new ≡ moved entries.old from to }
@@ -20,7 +20,7 @@ fn move_behind(entries: &mut [Entry], from: usize, to: usize)
     entries[from..to + 1].rotate_left(1);
 }
 
-// Moves the entry at an index before those from another index on.
+/// Moves the entry at an index before those from another index on.
 fn move_before(entries: &mut [Entry], from: usize, to: usize)
     requires { (to ≤ from) × (from < length entries.old) }
     ensures moved { entries.new ≡ moved entries.old from to }
@@ -29,7 +29,7 @@ fn move_before(entries: &mut [Entry], from: usize, to: usize)
     entries[to..from + 1].rotate_right(1);
 }
 
-// Moves the entry at an index to an index of the list without it.
+/// Moves the entry at an index to an index of the list without it.
 fn move_entry(entries: &mut Vec<Entry>, from: usize, to: usize)
     requires { (from < length entries.old.items) × (to < length entries.old.items) }
     ensures { entries.new.items ≡ moved entries.old.items from to }

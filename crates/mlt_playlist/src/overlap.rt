@@ -18,7 +18,7 @@ use mlt_base::{PlayFault, Try, UnitId};
 use mlt_tree::Entry;
 use std::alloc::AllocError;
 
-// A copy of the last n frames of an entry that has more; none of one that has as many.
+/// A copy of the last n frames of an entry that has more; `None` of one that has as many.
 fn copy_last(entry: &Entry, n: u32) -> Result<Option<Entry>, AllocError>
     requires { (1 ≤ n) × (n ≤ frames entry.now) × (frames entry.now < 2 ^ 32) }
     ensures { IfOk result (λ part. part ≡ last_part entry.now n) }
@@ -31,7 +31,7 @@ fn copy_last(entry: &Entry, n: u32) -> Result<Option<Entry>, AllocError>
     }
 }
 
-// A copy of the first n frames of an entry that has more; none of one that has as many.
+/// A copy of the first n frames of an entry that has more; `None` of one that has as many.
 fn copy_first(entry: &Entry, n: u32) -> Result<Option<Entry>, AllocError>
     requires { (1 ≤ n) × (n ≤ frames entry.now) }
     ensures { IfOk result (λ part. part ≡ first_part entry.now n) }
@@ -43,7 +43,7 @@ fn copy_first(entry: &Entry, n: u32) -> Result<Option<Entry>, AllocError>
     }
 }
 
-// Takes the last n frames of an entry out, which are the copy, or all of it where there is none.
+/// Takes the last n frames of an entry out, which are the copy, or all of it where there is none.
 fn take_last(entries: &mut Vec<Entry>, at: usize, n: u32, copy: Option<Entry>) -> Entry
     requires there { at < length entries.old.items }
     requires range { (1 ≤ n) × (n ≤ frames (entry_at entries.old.items at)) × (frames (entry_at entries.old.items at) < 2 ^ 32) }
@@ -64,7 +64,7 @@ fn take_last(entries: &mut Vec<Entry>, at: usize, n: u32, copy: Option<Entry>) -
     }
 }
 
-// Takes the first n frames of an entry out, which are the copy, or all of it where there is none.
+/// Takes the first n frames of an entry out, which are the copy, or all of it where there is none.
 fn take_first(entries: &mut Vec<Entry>, at: usize, n: u32, copy: Option<Entry>) -> Entry
     requires there { at < length entries.old.items }
     requires range { (1 ≤ n) × (n ≤ frames (entry_at entries.old.items at)) × (frames (entry_at entries.old.items at) < 2 ^ 32) }
@@ -85,8 +85,7 @@ fn take_first(entries: &mut Vec<Entry>, at: usize, n: u32, copy: Option<Entry>) 
     }
 }
 
-// Makes two neighbouring entries overlap by n frames: what is left of the first, the clip, and what is
-// left of the second take their place. Where memory is wanted, the entries are as they were.
+/// Puts a clip in place of the n frames by which two neighbours overlap; all or nothing is done.
 fn overlap(entries: &mut Vec<Entry>, at: usize, n: u32, clip: Entry) -> Result<MixParts, AllocError>
     requires there { at + 1 < length entries.old.items }
     requires some { 1 ≤ n }
@@ -107,7 +106,7 @@ fn overlap(entries: &mut Vec<Entry>, at: usize, n: u32, clip: Entry) -> Result<M
     Ok(MixParts { a, b, frames: n })
 }
 
-// By how many frames an entry and the one behind it overlap, where n are asked for.
+/// By how many frames an entry and the one behind it overlap, where n are asked for.
 fn share(entries: &[Entry], at: usize, n: u32) -> u32
     requires { at + 1 < length entries.now }
     ensures { result ≡ min n (min (frames (entry_at entries.now at)) (frames (entry_at entries.now (at + 1)))) }
@@ -116,7 +115,7 @@ fn share(entries: &[Entry], at: usize, n: u32) -> u32
     u64::from(n).min(shorter) as u32
 }
 
-// How many frames a list would have in which two neighbours so overlap; or why that is refused.
+/// How many frames a list would have in which two neighbours so overlap, or why that is refused.
 fn fits(entries: &[Entry], total: u32, at: usize, n: u32) -> Result<u32, PlayFault>
     requires counted { IsCounted entries.now total }
     requires there { at + 1 < length entries.now }

@@ -13,7 +13,7 @@ use crate::playlist::Playlist;
 use crate::refused::{bad_clip, bad_range};
 use mlt_base::{PlayFault, Try};
 
-// How many of so many frames come before a split at k.
+/// How many of so many frames come before a split at k; `None` where all or none would.
 fn before_split(frames: u32, k: i64) -> Option<u32>
     ensures { result ≡ edit.before_split frames k }
 {
@@ -32,7 +32,7 @@ fn before_split(frames: u32, k: i64) -> Option<u32>
 }
 
 impl Playlist {
-    // How many frames the entry at an index has; `None` where no entry stands there.
+    /// How many frames the entry at an index has; `None` where no entry stands there.
     fn frames_at(&self, at: usize) -> Option<u32>
         ensures { result ≡ option_map frames (slice_get self.now at) }
     {
@@ -40,7 +40,7 @@ impl Playlist {
         Some(frames_of(entry) as u32)
     }
 
-    // How many entries stand before a position, and how many frames of the next one.
+    /// How many entries stand before a position, and how many frames of the next one.
     pub(crate) fn place(&self, at: u32) -> (usize, u32)
         requires { at ≤ frames_in self.now }
         ensures { IsAt self.now at result.0 result.1 }

@@ -100,7 +100,7 @@ impl Playlist {
         ItemList::from_vec(entries)
     }
 
-    // What its memory is taken from.
+    /// What its memory is taken from.
     pub(crate) fn alloc(&self) -> Global {
         *self.entries.allocator()
     }

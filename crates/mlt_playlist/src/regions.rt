@@ -15,7 +15,7 @@ use crate::refused::{bad_range, held};
 use mlt_base::{PlayFault, Try};
 use mlt_tree::Entry;
 
-// Leaves of an entry its frames before a place, where there are any, and gives the index behind them.
+/// Leaves of an entry its frames before a place, if there are any, and gives the index behind them.
 fn keep_before(entries: &mut Vec<Entry>, at: usize, place: u32) -> usize
     requires within { at ≤ length entries.old.items }
     requires there { 0 < place → at < length entries.old.items }
@@ -32,7 +32,7 @@ fn keep_before(entries: &mut Vec<Entry>, at: usize, place: u32) -> usize
     at + 1
 }
 
-// Leaves of an entry its frames from a place on, where any stand before it.
+/// Leaves of an entry its frames from a place on, where any stand before it.
 fn keep_rest(entries: &mut Vec<Entry>, at: usize, place: u32)
     requires within { at ≤ length entries.old.items }
     requires there { 0 < place → at < length entries.old.items }
@@ -49,7 +49,7 @@ fn keep_rest(entries: &mut Vec<Entry>, at: usize, place: u32)
     narrow(&mut entries[at], place, frames);
 }
 
-// Takes the entries from an index to before another out.
+/// Takes the entries from an index to before another out.
 fn erase(entries: &mut Vec<Entry>, from: usize, to: usize)
     requires { (from ≤ to) × (to ≤ length entries.old.items) }
     ensures { entries.new.items ≡ take from entries.old.items ++ drop to entries.old.items }
@@ -59,8 +59,7 @@ fn erase(entries: &mut Vec<Entry>, from: usize, to: usize)
     entries.truncate(count);
 }
 
-// Takes out the frames from a place in one entry to before a place in a later one, or in the same where
-// nothing of it stays before the first place.
+/// Takes out the frames from a place in an entry to before one in a later, or in it if none stays.
 fn cut_out(entries: &mut Vec<Entry>, from: usize, first: u32, to: usize, last: u32)
     requires order { from + min first 1 ≤ to }
     requires within { to ≤ length entries.old.items }
@@ -117,7 +116,7 @@ impl Playlist {
         self.divide(index, place, place, Some(entry))
     }
 
-    // Puts a gap behind the others that reaches to a position, and an entry behind it.
+    /// Puts a gap behind the others that reaches to a position, and an entry behind it.
     fn append_at(&mut self, at: u32, entry: Entry) -> Result<(), Try<PlayFault>>
         requires at { (frames_in self.old < at) × (at < 2 ^ 31) }
         requires entry { IsEntry entry }

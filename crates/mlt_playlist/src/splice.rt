@@ -15,7 +15,7 @@ use std::slice;
 /// The most entries that a list can have.
 pub(crate) const MOST_ENTRIES: usize = 100_000;
 
-// A part of a list whose last m entries come before the others, and the first n of these last.
+/// Brings the last m entries of a part before the others, and the first n of these behind all.
 fn turn(part: &mut [Entry], n: usize, m: usize)
     requires { n + m ≤ length part.old }
     ensures { part.new ≡ drop (length part.old - m) part.old ++ (drop n (take (length part.old - m) part.old) ++ take n part.old) }
@@ -25,8 +25,7 @@ fn turn(part: &mut [Entry], n: usize, m: usize)
     part[m..].rotate_left(n);
 }
 
-// Puts entries in place of n from an index on, and those behind all others. Where memory is wanted,
-// both lists are as they were.
+/// Puts entries in place of n from an index on, and those n behind all; all or nothing is done.
 fn exchange(
     entries: &mut Vec<Entry>,
     at: usize,
@@ -46,7 +45,7 @@ fn exchange(
     Ok(())
 }
 
-// Moves the last n entries to another list, which is empty and has room for them.
+/// Moves the last n entries to another list, which is empty and has room for them.
 fn move_last(entries: &mut Vec<Entry>, n: usize, out: &mut Vec<Entry>)
     requires range { n ≤ length entries.old.items }
     requires empty { out.old.items ≡ [] }
@@ -62,8 +61,7 @@ fn move_last(entries: &mut Vec<Entry>, n: usize, out: &mut Vec<Entry>)
     out.reverse();
 }
 
-// Puts entries in place of n from an index on, which take their place. Where memory is wanted, both
-// lists are as they were.
+/// Trades entries for n of a list from an index on; all or nothing is done.
 fn trade(
     entries: &mut Vec<Entry>,
     at: usize,
@@ -93,7 +91,7 @@ pub(crate) fn length_of(frames: u64) -> Result<u32, PlayFault>
     }
 }
 
-// How many frames the entries would have with others in place of n from an index on.
+/// How many frames the entries would have with others in place of n from an index on.
 fn frames_with(entries: &[Entry], frames: u32, at: usize, n: usize, new: &[Entry]) -> u64
     requires counted { IsCounted entries.now frames }
     requires range { at + n ≤ length entries.now }
@@ -103,7 +101,7 @@ fn frames_with(entries: &[Entry], frames: u32, at: usize, n: usize, new: &[Entry
     u64::from(frames) - total(&entries[at..at + n]) + total(new)
 }
 
-// That number, where a list may have so many frames and entries; or why it may not.
+/// How many frames the entries would have with others in place of n, or why that is refused.
 fn fits(
     entries: &[Entry],
     frames: u32,
