@@ -12,7 +12,7 @@ sum_of_sources() (
     shopt -s nullglob
     find crates.txt crates/*/{src,specs,proofs} \( -type f -o -type l \) -print0 |
         LC_ALL=C sort -z | xargs -0 sha256sum | sha256sum | cut -d ' ' -f 1 || {
-        echo "${0##*/}: the sources in $top can't be read" >&2
+        echo "bin/${0##*/}: the sources in $top can't be read" >&2
         exit 126
     }
 )
