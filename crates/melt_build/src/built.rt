@@ -9,7 +9,8 @@ ghost use Rattle.mlt_tree.specs.Refusing.{over};
 use crate::service::{producer_of, raw_of};
 use mlt_tree::{Cause, Group, GroupKind, Producer, Prop, Refusal};
 
-fn comes_later(prop: &Prop) -> bool
+/// Whether a property of the consumer is not built yet.
+fn is_later_prop(prop: &Prop) -> bool
     ensures { result ≡ is_later_prop prop.now }
 {
     let name = prop.name.as_str();
@@ -21,14 +22,15 @@ fn later_prop(props: &[Prop]) -> Option<&Prop>
     ensures { option_copied result ≡ find is_later_prop props.now }
 {
     for prop in props {
-        if comes_later(prop) {
+        if is_later_prop(prop) {
             return Some(prop);
         }
     }
     None
 }
 
-fn names_colour(word: &str) -> bool
+/// Whether a word names a colour, or nothing that is known.
+fn is_colour(word: &str) -> bool
     ensures { result ≡ is_colour (producer_of word.now) }
 {
     match producer_of(word) {
@@ -43,17 +45,18 @@ fn names_colour(word: &str) -> bool
 }
 
 /// A producer of a colour.
-fn producer_is_built(group: &Group) -> Result<(), Refusal>
+fn producer_built(group: &Group) -> Result<(), Refusal>
     ensures { result ≡ producer_built group.now }
 {
-    if names_colour(group.arg.as_str()) {
+    if is_colour(group.arg.as_str()) {
         Ok(())
     } else {
         Err(Refusal::at(group.place, Cause::Unsupported))
     }
 }
 
-fn props_are_built(group: &Group) -> Result<(), Refusal>
+/// A consumer without such a property.
+fn props_built(group: &Group) -> Result<(), Refusal>
     ensures { result ≡ props_built group.now (raw_of group.now.arg) }
 {
     match raw_of(group.arg.as_str()) {
@@ -67,12 +70,12 @@ fn props_are_built(group: &Group) -> Result<(), Refusal>
 
 /// Whether a group is built.
 #[tactic(auto, unfolding(mlt_tree::specs::Unbuilt::built))]
-fn group_is_built(group: &Group) -> Result<(), Refusal>
+fn built(group: &Group) -> Result<(), Refusal>
     ensures { result ≡ built group.now }
 {
     match group.kind {
-        GroupKind::Producer => producer_is_built(group),
-        GroupKind::Consumer => props_are_built(group),
+        GroupKind::Producer => producer_built(group),
+        GroupKind::Consumer => props_built(group),
         GroupKind::Attach
         | GroupKind::AttachCut
         | GroupKind::AttachClip
@@ -116,7 +119,7 @@ pub(crate) fn all_built(groups: &[Group]) -> Result<(), Refusal>
     ensures { result ≡ over built_step tt groups.now }
 {
     for group in groups {
-        group_is_built(group)?;
+        built(group)?;
     }
     Ok(())
 }

@@ -16,7 +16,7 @@ ghost use Rattle.melt_build.specs.Service.{named_view};
 ghost use Rattle.melt_build.specs.Sources.{pixel, source_of};
 ghost use Rattle.melt_build.specs.State.{IsComposed, IsMade, made_view, state_view, cut_view};
 
-use crate::colours::colour_named;
+use crate::colours::colour_of;
 use crate::edits::edited;
 use crate::object::Object;
 use crate::props::Given;
@@ -54,7 +54,7 @@ fn origin_of(place: u32, named: Named<'_>) -> Result<Origin, Refusal>
     ensures { Takes origin_view result (meaning.origin_of place (named_view named.entry)) }
 {
     match named.producer {
-        Producer::Colour => match colour_named(colour_name(named.arg)) {
+        Producer::Colour => match colour_of(colour_name(named.arg)) {
             Some(colour) => Ok(Origin::Colour(colour)),
             None => Err(Refusal::at(place, Cause::BadValue)),
         },
@@ -65,7 +65,7 @@ fn origin_of(place: u32, named: Named<'_>) -> Result<Origin, Refusal>
 }
 
 /// The colour that is named.
-fn colour_of(origin: Origin) -> Colour
+fn colour_in(origin: Origin) -> Colour
     ensures { origin_view origin ≡ OfColour (pixel result) }
 {
     match origin {
@@ -135,7 +135,7 @@ impl Made {
         ensures there { IfOk result (λ product. product.unit.0 < length self.new.graph) }
         ensures frames { IfOk result (λ product. (1 ≤ product.frames) × (product.frames < 2 ^ 31)) }
     {
-        match self.source_made(colour_of(origin), asked) {
+        match self.source_made(colour_in(origin), asked) {
             Ok(product) => Ok(product),
             Err(_) => Err(Try::Memory),
         }

@@ -7,7 +7,7 @@ ghost use Rattle.melt_build.specs.Sources.{pixel};
 
 use crate::sources::Colour;
 
-fn hex_digit(c: u8) -> Option<u8>
+fn hex(c: u8) -> Option<u8>
     ensures value { result ≡ hex c }
     ensures small { IfSome result (λ digit. digit < 16) }
 {
@@ -19,44 +19,44 @@ fn hex_digit(c: u8) -> Option<u8>
     }
 }
 
-fn hex_pair(high: u8, low: u8) -> Option<u8>
+fn hex_byte(high: u8, low: u8) -> Option<u8>
     ensures { result ≡ hex_byte high low }
 {
-    let x = hex_digit(high)?;
-    let y = hex_digit(low)?;
+    let x = hex(high)?;
+    let y = hex(low)?;
     Some(x * 16 + y)
 }
 
-fn with_alpha(text: &[u8]) -> Option<Colour>
+fn rgba(text: &[u8]) -> Option<Colour>
     ensures { option_map pixel result ≡ rgba text.now }
 {
     match text {
         [r, r2, g, g2, b, b2, a, a2] => {
-            let r = hex_pair(*r, *r2)?;
-            let g = hex_pair(*g, *g2)?;
-            let b = hex_pair(*b, *b2)?;
-            let a = hex_pair(*a, *a2)?;
+            let r = hex_byte(*r, *r2)?;
+            let g = hex_byte(*g, *g2)?;
+            let b = hex_byte(*b, *b2)?;
+            let a = hex_byte(*a, *a2)?;
             Some(Colour { r, g, b, a })
         }
         _ => None,
     }
 }
 
-fn without_alpha(text: &[u8]) -> Option<Colour>
+fn rgb_or_argb(text: &[u8]) -> Option<Colour>
     ensures { option_map pixel result ≡ rgb_or_argb text.now }
 {
     match text {
         [r, r2, g, g2, b, b2] => {
-            let r = hex_pair(*r, *r2)?;
-            let g = hex_pair(*g, *g2)?;
-            let b = hex_pair(*b, *b2)?;
+            let r = hex_byte(*r, *r2)?;
+            let g = hex_byte(*g, *g2)?;
+            let b = hex_byte(*b, *b2)?;
             Some(Colour { r, g, b, a: 255 })
         }
         [a, a2, r, r2, g, g2, b, b2] => {
-            let a = hex_pair(*a, *a2)?;
-            let r = hex_pair(*r, *r2)?;
-            let g = hex_pair(*g, *g2)?;
-            let b = hex_pair(*b, *b2)?;
+            let a = hex_byte(*a, *a2)?;
+            let r = hex_byte(*r, *r2)?;
+            let g = hex_byte(*g, *g2)?;
+            let b = hex_byte(*b, *b2)?;
             Some(Colour { r, g, b, a })
         }
         _ => None,
@@ -69,7 +69,7 @@ const fn opaque(r: u8, g: u8, b: u8) -> Colour
     Colour { r, g, b, a: 255 }
 }
 
-fn named_colour(text: &str) -> Option<Colour>
+fn named(text: &str) -> Option<Colour>
     ensures { option_map pixel result ≡ named text.now }
 {
     match text {
@@ -83,15 +83,15 @@ fn named_colour(text: &str) -> Option<Colour>
 }
 
 /// The colour that a text names.
-pub(crate) fn colour_named(text: &str) -> Option<Colour>
+pub(crate) fn colour_of(text: &str) -> Option<Colour>
     ensures { option_map pixel result ≡ colour_of text.now }
 {
     let bytes = text.as_bytes();
     if bytes.starts_with(b"0x") {
-        with_alpha(&bytes[2..])
+        rgba(&bytes[2..])
     } else if bytes.starts_with(b"#") {
-        without_alpha(&bytes[1..])
+        rgb_or_argb(&bytes[1..])
     } else {
-        named_colour(text)
+        named(text)
     }
 }

@@ -24,7 +24,7 @@ use std::alloc::{AllocError, Global};
 use std::mem;
 
 /// `dv_pal`.
-fn default_profile() -> Profile
+fn default_frames() -> Profile
     ensures { profile_view result ≡ default_frames }
 {
     Profile {
@@ -35,7 +35,7 @@ fn default_profile() -> Profile
 }
 
 /// The first `-profile`; a second is refused.
-fn first_profile(found: Option<Profile>, group: &Group) -> Result<Option<Profile>, Refusal>
+fn profile_named(found: Option<Profile>, group: &Group) -> Result<Option<Profile>, Refusal>
     ensures { Takes (option_map profile_view) result (profile_named (option_map profile_view found) group.now) }
 {
     match found {
@@ -52,7 +52,7 @@ fn profile_step(found: Option<Profile>, group: &Group) -> Result<Option<Profile>
     ensures { Takes (option_map profile_view) result (profile_step_of (option_map profile_view found) group.now) }
 {
     match group.kind {
-        GroupKind::Profile => first_profile(found, group),
+        GroupKind::Profile => profile_named(found, group),
         _ => Ok(found),
     }
 }
@@ -74,7 +74,7 @@ fn framed(groups: &[Group]) -> Result<Profile, Refusal>
     ensures { Takes profile_view result (framed_of groups.now) }
 {
     all_built(groups)?;
-    Ok(find_profile(groups)?.unwrap_or(default_profile()))
+    Ok(find_profile(groups)?.unwrap_or(default_frames()))
 }
 
 impl<'a> State<'a> {

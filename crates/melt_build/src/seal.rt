@@ -26,7 +26,7 @@ use mlt_tree::{Cause, Refusal, services as row};
 use std::alloc::{AllocError, Global};
 
 /// The bytes of one picture or of one pair's sound in a frame, whichever is more.
-fn unit(profile: &Profile) -> u64
+fn unit_of(profile: &Profile) -> u64
     ensures value { result ≡ unit_of (profile_view profile.now) }
     ensures small { result ≤ 2 ^ 26 }
 {
@@ -36,12 +36,12 @@ fn unit(profile: &Profile) -> u64
 }
 
 /// The bytes that a run holds at most, where one evaluation holds so many buffers.
-fn bytes(profile: &Profile, c: &Consumer<'_>, need: u32) -> u64
+fn bytes_of(profile: &Profile, c: &Consumer<'_>, need: u32) -> u64
     requires { need ≤ 4369 }
     ensures { result ≡ bytes_of (profile_view profile.now) (consumer_view c.now) need }
 {
     let hands = u64::from(c.workers) + 1;
-    unit(profile) * (u64::from(c.buffer) + hands * u64::from(need) + u64::from(c.cache))
+    unit_of(profile) * (u64::from(c.buffer) + hands * u64::from(need) + u64::from(c.cache))
 }
 
 fn few_frames(count: u32, range: Cut) -> Result<Cut, Refusal>
@@ -84,7 +84,7 @@ fn ranged(count: u32, profile: &Profile, c: &Consumer<'_>, sealed: &Sealed) -> R
 {
     let range = cut_of(c.place, sealed.length(), c.first.unwrap_or(0), c.last)?;
     let range = few_frames(count, range)?;
-    few_bytes(count, bytes(profile, c, sealed.need()), range)
+    few_bytes(count, bytes_of(profile, c, sealed.need()), range)
 }
 
 /// `raw:-` with the defaults.
@@ -105,7 +105,7 @@ fn default_consumer() -> Consumer<'static>
 }
 
 /// The settings of the consumer, on a range of positions.
-fn output(alloc: Global, c: &Consumer<'_>, range: Cut) -> Result<Output, AllocError>
+fn settings_of(alloc: Global, c: &Consumer<'_>, range: Cut) -> Result<Output, AllocError>
     requires ordered { range.first ≤ range.last }
     requires few { range.last + 1 - range.first ≤ 1000000 }
     ensures value { IfOk result (λ output. output_view output ≡ settings_of (consumer_view c.now) (cut_view range)) }
@@ -172,7 +172,7 @@ fn show_of_tree(
 {
     let c = consumer.unwrap_or(default_consumer());
     let range = ranged(count, &profile, &c, &sealed)?;
-    match output(alloc, &c, range) {
+    match settings_of(alloc, &c, range) {
         Ok(output) => Ok(Show {
             sealed,
             profile,

@@ -9,6 +9,6 @@ use Rattle.melt_build.proofs.state.Made.product_of.Goals as goal
 pub returns-in-Ok-clause-value : goal.returns-in-Ok-clause-value
 returns-in-Ok-clause-value c = λ files s group made.
     let asked = wanted_view c.args.asked in
-    ap (λ from. product_of files s group from asked) c.colour_of.ensures
-    ∙ ap (λ m. done (source_made s.frames m (source_of c.colour_of.result) asked)) made
+    ap (λ from. product_of files s group from asked) c.colour_in.ensures
+    ∙ ap (λ m. done (source_made s.frames m (source_of c.colour_in.result) asked)) made
     ∙ ap done (sym (c.in-Ok.ensures.value s.frames))
