@@ -26,7 +26,7 @@ fn row_of(alloc: Global, property: &Property) -> Result<String, AllocError> {
             let (name, low, high) = (text_of(&row.name), row.low, row.high);
             format!(in alloc; "| `{name}` | a whole number, {low} to {high} |")
         }
-        Property::Size(row) => {
+        Property::Distance(row) => {
             let (name, high) = (text_of(&row.name), row.high);
             format!(in alloc; "| `{name}` | a whole number, -{high} to {high} | 0 |")
         }

@@ -28,10 +28,10 @@ fn main(rt: HostRuntime) -> ExitCode {
     let Ok(words) = arguments.collect::<Vec<String>>(rt.alloc()) else {
         return without_words(&rt, io::ErrorKind::OutOfMemory);
     };
-    let output = rt.stdout();
-    let errors = rt.stderr();
+    let stdout = rt.stdout();
+    let stderr = rt.stderr();
     let alloc = rt.alloc();
-    let mut host = DiskHost::new(SystemDisk::new(rt), output, errors);
+    let mut host = DiskHost::new(SystemDisk::new(rt), stdout, stderr);
     let status = melt(&(), alloc, words.as_slice(), &mut host, &Free);
     ExitCode::from(status.code())
 }

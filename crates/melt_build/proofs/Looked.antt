@@ -6,7 +6,8 @@ use Rattle.mlt_base.specs.declared.refusal.Try.TheVariants.{Fault, Memory}
 use Rattle.mlt_tree.specs.declared.refusal.Refusal.{Refusal}
 use Rattle.mlt_tree.specs.declared.group.Group.{Group}
 use Rattle.mlt_tree.specs.Composing.{effect, composed}
-use Rattle.mlt_tree.specs.Composition.{Frames, start}
+use Rattle.mlt_base.specs.Profile.{Measures}
+use Rattle.mlt_tree.specs.Composition.{start}
 use Rattle.mlt_tree.specs.Sealing.{framed}
 use Rattle.mlt_tree.specs.Loading.{Files, Refused, stopped, plainly, through, ◌>>=◌}
 use Rattle.melt_build.specs.Reads.{ReadGives}
@@ -22,6 +23,6 @@ pub composed_refused : (files : Files) (count : ℕ) (gs : List Group) (refusal 
 unfolding composed
 composed_refused files count gs refusal h = ap (λ r. plainly r >>= λ frames. through (effect files) (start frames count) gs) h
 
-pub composed_framed : (files : Files) (count : ℕ) (gs : List Group) (frames : Frames) → framed gs ≡ Ok frames → composed files count gs ≡ through (effect files) (start frames count) gs
+pub composed_framed : (files : Files) (count : ℕ) (gs : List Group) (frames : Measures) → framed gs ≡ Ok frames → composed files count gs ≡ through (effect files) (start frames count) gs
 unfolding composed
 composed_framed files count gs frames h = ap (λ r. plainly r >>= λ frames. through (effect files) (start frames count) gs) h

@@ -10,7 +10,7 @@ use Rattle.mlt_tree.specs.Clips.{Origin, Wanted, Product, origin_of, wanted_by, 
 use Rattle.mlt_tree.specs.Composing.{product_of, producer}
 use Rattle.mlt_tree.specs.Composition.{State, Made}
 use Rattle.mlt_tree.specs.Loading.{Files, Read, Refused, done, stopped, plainly, ◌>>=◌}
-use Rattle.mlt_tree.specs.Refusing.{known, refusal_at}
+use Rattle.mlt_tree.specs.Refusing.{or_refuse, refusal_at}
 use Rattle.mlt_tree.specs.Services.{Named, producer_of}
 use Rattle.melt_build.specs.Reads.{ReadGives}
 use Rattle.melt_build.proofs.Looked.{plain_gives}
@@ -26,9 +26,9 @@ module _ (files : Files) (s : State) (g : Group) where
   abbrev named_rest : Named → Read State
   named_rest named = plainly (origin_of g.place named) >>= from_rest
 
-  by_name : (o : Option Named) → producer_of g.arg ≡ o → producer files s g ≡ (plainly (known g.place cause.UnknownService o) >>= named_rest)
+  by_name : (o : Option Named) → producer_of g.arg ≡ o → producer files s g ≡ (plainly (or_refuse g.place cause.UnknownService o) >>= named_rest)
   unfolding producer
-  by_name o h = ap (λ o. plainly (known g.place cause.UnknownService o) >>= named_rest) h
+  by_name o h = ap (λ o. plainly (or_refuse g.place cause.UnknownService o) >>= named_rest) h
 
   -- a service that isn't there
   pub unknown : producer_of g.arg ≡ None → producer files s g ≡ stopped (Refused (refusal_at g.place cause.UnknownService))

@@ -6,6 +6,7 @@ use Rattle.std.specs.Result.{result_unwrap_or}
 use Rattle.mlt_base.specs.Steps.{◌>>=◌}
 use Rattle.mlt_base.specs.Try.{TryGives}
 use Rattle.mlt_base.specs.declared.faults.PlayFault.{PlayFault}
+use Rattle.mlt_base.specs.declared.limits.TheConstants.{MOST_ENTRIES}
 use Rattle.mlt_base.specs.declared.refusal.Try.{Try}
 use Rattle.mlt_base.specs.declared.refusal.Try.TheVariants.{Fault, Memory}
 use Rattle.mlt_tree.specs.declared.entry.Entry.{Entry}
@@ -17,9 +18,10 @@ use Rattle.mlt_tree.specs.Composition.{on_last, edited, track, with_track, repea
 use Rattle.mlt_tree.specs.Edits as edit
 use Rattle.mlt_tree.specs.Edits.{Edit, clip, frames_in}
 use Rattle.mlt_tree.specs.Props.{counted}
+use Rattle.mlt_tree.specs.Refusing.{at_group}
 use Rattle.mlt_tree.specs.Unbuilt.{IsPlainNode}
 use Rattle.mlt_tree.specs.Units.{list_unit, with_entries}
-use Rattle.mlt_playlist.specs.Playlist.{Does}
+use Rattle.mlt_playlist.specs.Playlist.{Does, DoesAlways}
 use Rattle.melt_build.specs.Edited.{edited_at}
 use Rattle.melt_build.specs.declared.state.State.{State}
 use Rattle.melt_build.specs.State.{IsComposed, IsKnown, IsKnownLevel, FitsUnits, state_view}
@@ -64,7 +66,13 @@ module _ {A : Type 0} where
   edited_done place done old new (Err (Fault fault)) x is h = let apart : ⊥ = grind arith in absurd apart
   edited_done place done old new (Err Memory) x is h = let apart : ⊥ = grind arith in absurd apart
 
-pub repeat_is : (s : meaning.State) (g : Group) (n : ℕ) → Ok n ≡ counted 1 100000 g.place g.arg → repeat s g ≡ on_last s g (λ last. edited s g (edit.repeat_clip last n (track s)))
+  -- the same of an edit that takes no memory
+  pub grouped_done : (place : ℕ) (done : Edit A) (old new : List Entry) (r : Result A PlayFault) (x : A) → at_group place r ≡ Ok x → DoesAlways done old new r → done ≡ Ok (x, new)
+  grouped_done place done old new (Ok y) x is h =
+      h ∙ ap (λ (r : Result A Refusal). Ok (result_unwrap_or r x, new)) is
+  grouped_done place done old new (Err fault) x is h = let apart : ⊥ = grind arith in absurd apart
+
+pub repeat_is : (s : meaning.State) (g : Group) (n : ℕ) → Ok n ≡ counted 1 MOST_ENTRIES g.place g.arg → repeat s g ≡ on_last s g (λ last. edited s g (edit.repeat_clip last n (track s)))
 unfolding repeat
 repeat_is s g n h =
     ap (λ (r : Result ℕ Refusal). r >>= λ n. on_last s g (λ last. edited s g (edit.repeat_clip last n (track s)))) (sym h)

@@ -12,11 +12,6 @@ abbrev pub at_place : {A : Type 0} → ℕ → Result A Cause → Result A Refus
 at_place place (Ok x) = Ok x
 at_place place (Err cause) = refuse place cause
 
--- a step that answers Ok gives, seen by view, what the definition gives; else its refusal
-abbrev pub Takes : {X Y : Type 0} → (X → Y) → Result X Refusal → Result Y Refusal → Type 0
-Takes view (Ok x) wanted = wanted ≡ Ok (view x)
-Takes view (Err refusal) wanted = wanted ≡ Err refusal
-
 -- a step that looks up no file gives, seen by view, what the definition gives, unless memory ran out
 abbrev pub ReadGives : {X Y : Type 0} → (X → Y) → Result X (Try Refusal) → Read Y → Type 0
 ReadGives view (Ok x) wanted = wanted ≡ done (view x)

@@ -1,6 +1,7 @@
 -- What a composition as far as it is read means.
 use Rattle.std.specs.Prelude.{ℕ, ◌≡◌, ◌<◌, List, [], length, get_or, All}
 use Rattle.std.specs.Option.{option_map}
+use Rattle.mlt_base.specs.ProfileView.{measures_of}
 use Rattle.mlt_tree.specs.declared.draft.Draft.{Draft}
 use Rattle.mlt_tree.specs.declared.entry.Entry.{Entry}
 use Rattle.mlt_tree.specs.declared.node.Node.{Node}
@@ -10,7 +11,7 @@ use Rattle.mlt_tree.specs.Show.{Source}
 use Rattle.mlt_tree.specs.Sources.{FitsBody}
 use Rattle.mlt_tree.specs.Unbuilt.{IsPlainEntry, IsPlainNode}
 use Rattle.mlt_tree.specs.Units.{Level, IsEntryBelow}
-use Rattle.mlt_graph.specs.Show.{profile_view, pix_of}
+use Rattle.mlt_graph.specs.Show.{pix_of}
 use Rattle.melt_build.specs.declared.consumer.Consumer.{Consumer}
 use Rattle.melt_build.specs.declared.wanted.Cut.{Cut}
 use Rattle.melt_build.specs.declared.state.Made.{Made}
@@ -37,7 +38,7 @@ made_view made = record { units = made.graph; sources = made.table; loaded = mad
 
 abbrev pub state_view : State → meaning.State
 state_view s = record {
-  frames = profile_view s.profile;
+  profile = measures_of s.profile;
   made = made_view s.made;
   level = s.level;
   plant_places = s.plant_places.items;

@@ -1,37 +1,39 @@
 //! Producers: what a word asks for, what it makes, and the clip of that at the track's end.
 
 ghost use Rattle.std.specs.Prelude.{◌≡◌, ◌≤◌, ◌<◌, ◌+◌, ◌-◌, ◌^◌, length, IfOk, IfSome, OnOk};
-ghost use Rattle.mlt_base.specs.Try.{TryGives};
+ghost use Rattle.mlt_base.specs.Profile.{Measures};
+ghost use Rattle.mlt_base.specs.ProfileView.{measures_of};
+ghost use Rattle.mlt_base.specs.Try.{Gives, TryGives};
 ghost use Rattle.mlt_tree.specs.Clips as meaning;
 ghost use Rattle.mlt_tree.specs.Clips.{OfColour};
 ghost use Rattle.mlt_tree.specs.Composing as composing;
-ghost use Rattle.mlt_tree.specs.Composition.{Frames, State as StateOf, props_of};
+ghost use Rattle.mlt_tree.specs.Composition.{State as StateOf, props_of};
 ghost use Rattle.mlt_tree.specs.Loading.{Files};
 ghost use Rattle.mlt_tree.specs.declared.group.Group.{Group as GroupOf};
-ghost use Rattle.mlt_graph.specs.Show.{fraction};
 ghost use Rattle.melt_build.specs.Clips.{origin_view, wanted_view, product_view};
 ghost use Rattle.melt_build.specs.Given.{props_in};
-ghost use Rattle.melt_build.specs.Reads.{Takes, ReadGives};
+ghost use Rattle.melt_build.specs.Reads.{ReadGives};
 ghost use Rattle.melt_build.specs.Service.{named_view};
 ghost use Rattle.melt_build.specs.Sources.{pixel, source_of};
 ghost use Rattle.melt_build.specs.State.{IsComposed, IsMade, made_view, state_view, cut_view};
 
 use crate::colours::colour_of;
-use crate::edits::edited;
 use crate::object::Object;
 use crate::props::Given;
+use crate::refused::edited;
 use crate::service::{Named, colour_name, producer_of};
 use crate::sources::Colour;
 use crate::state::{Made, State};
 use crate::wanted::{Cut, Origin, Product, Wanted};
-use mlt_base::{Pos, Rate, Span, Try};
+use mlt_base::limits::OWN_LENGTH;
+use mlt_base::{Pos, Profile, Span, Try};
 use mlt_tree::{Cause, Entry, FilterList, Group, Producer, Refusal, SourceKind, services as row};
 use std::alloc::{AllocError, Global};
 
 /// From the first frame to the last, which is the source's where none is given.
 pub(crate) fn cut_of(place: u32, length: u32, first: u32, out: Option<u32>) -> Result<Cut, Refusal>
     requires { 1 ≤ length }
-    ensures value { Takes cut_view result (meaning.cut_of place length first out) }
+    ensures value { Gives cut_view result (meaning.cut_of place length first out) }
     ensures ordered { IfOk result (λ c. (c.first ≤ c.last) × (c.last < length)) }
 {
     let last = out.unwrap_or(length - 1);
@@ -51,7 +53,7 @@ pub(crate) fn cut_of(place: u32, length: u32, first: u32, out: Option<u32>) -> R
 
 /// The value of a service.
 fn origin_of(place: u32, named: Named<'_>) -> Result<Origin, Refusal>
-    ensures { Takes origin_view result (meaning.origin_of place (named_view named.entry)) }
+    ensures { Gives origin_view result (meaning.origin_of place (named_view named.entry)) }
 {
     match named.producer {
         Producer::Colour => match colour_of(colour_name(named.arg)) {
@@ -85,7 +87,7 @@ fn length_by(own: u32, last: Option<u32>, length: Option<u32>) -> u32
         Some(length) => length,
         None => match last {
             None => own,
-            Some(last) => own.max(last + 1).min(2147483647),
+            Some(last) => own.max(last + 1).min(row::LENGTH.high),
         },
     }
 }
@@ -93,12 +95,12 @@ fn length_by(own: u32, last: Option<u32>, length: Option<u32>) -> u32
 impl Given<'_, '_> {
     /// The frames and the length that the properties ask for.
     #[tactic(auto, unfolding(mlt_tree::specs::Clips::wanted_by))]
-    fn wanted_by(&self, rate: Rate) -> Result<Wanted, Refusal>
-        ensures { (s : StateOf) (group : GroupOf) → props_of s group ≡ props_in self.now → s.frames.rate ≡ fraction rate →
-            Takes wanted_view result (meaning.wanted_by s group) }
+    fn wanted_by(&self, profile: &Profile) -> Result<Wanted, Refusal>
+        ensures { (s : StateOf) (group : GroupOf) → props_of s group ≡ props_in self.now → s.profile ≡ measures_of profile.now →
+            Gives wanted_view result (meaning.wanted_by s group) }
     {
-        let first = self.moment_or_first(&row::IN, rate)?;
-        let last = self.moment(&row::OUT, rate)?;
+        let first = self.moment_or_first(&row::IN, profile)?;
+        let last = self.moment(&row::OUT, profile)?;
         let length = self.number(&row::LENGTH)?;
         Ok(Wanted {
             first,
@@ -112,14 +114,14 @@ impl Made {
     /// A source of a colour and its unit, which have the next numbers.
     fn source_made(&mut self, colour: Colour, asked: Wanted) -> Result<Product, AllocError>
         requires { IsMade self.old }
-        ensures value { (frames : Frames) → IfOk result (λ product. product_view self.new product ≡
-            meaning.source_made frames (made_view self.old) (source_of colour) (wanted_view asked)) }
+        ensures value { (profile : Measures) → IfOk result (λ product. product_view self.new product ≡
+            meaning.source_made profile (made_view self.old) (source_of colour) (wanted_view asked)) }
         ensures made { OnOk result (IsMade self.new) }
         ensures more { length self.old.graph ≤ length self.new.graph }
         ensures there { IfOk result (λ product. product.unit.0 < length self.new.graph) }
         ensures frames { IfOk result (λ product. (1 ≤ product.frames) × (product.frames < 2 ^ 31)) }
     {
-        let frames = length_by(15000, asked.last, asked.length);
+        let frames = length_by(OWN_LENGTH, asked.last, asked.length);
         let source = self.table.add_colour(colour)?;
         let unit = self.graph.add_source(source, SourceKind::Colour, frames)?;
         Ok(Product { unit, frames })
@@ -135,10 +137,7 @@ impl Made {
         ensures there { IfOk result (λ product. product.unit.0 < length self.new.graph) }
         ensures frames { IfOk result (λ product. (1 ≤ product.frames) × (product.frames < 2 ^ 31)) }
     {
-        match self.source_made(colour_in(origin), asked) {
-            Ok(product) => Ok(product),
-            Err(_) => Err(Try::Memory),
-        }
+        Ok(self.source_made(colour_in(origin), asked)?)
     }
 }
 
@@ -187,21 +186,13 @@ impl State<'_> {
         let Some(named) = producer_of(group.arg.as_str()) else {
             return Err(Try::Fault(Refusal::at(group.place, Cause::UnknownService)));
         };
-        let origin = match origin_of(group.place, named) {
-            Ok(origin) => origin,
-            Err(refusal) => return Err(Try::Fault(refusal)),
-        };
+        let origin = origin_of(group.place, named)?;
         let given = Given {
             inherited: &self.inherited,
             own,
         };
-        let asked = match given.wanted_by(self.profile.rate) {
-            Ok(asked) => asked,
-            Err(refusal) => return Err(Try::Fault(refusal)),
-        };
-        match self.made.product_of(origin, asked) {
-            Ok(product) => self.clip_added(alloc, group, product, asked),
-            Err(refusal) => Err(refusal),
-        }
+        let asked = given.wanted_by(&self.profile)?;
+        let product = self.made.product_of(origin, asked)?;
+        self.clip_added(alloc, group, product, asked)
     }
 }

@@ -2,14 +2,14 @@
 
 ghost use Rattle.std.specs.Prelude.{◌≡◌, IfOk, OnOk, None};
 ghost use Rattle.std.specs.Option.{option_map};
-ghost use Rattle.mlt_base.specs.Try.{TryGives};
+ghost use Rattle.mlt_base.specs.Try.{Gives, TryGives};
 ghost use Rattle.mlt_tree.specs.Composing.{producer as producer_of, effect as effect_of, composed as composed_of};
-ghost use Rattle.mlt_tree.specs.Composition.{profile_step as profile_step_of, profile_named, consumer as consumer_of, inherit as inherit_of, start as start_of, default_frames};
+ghost use Rattle.mlt_tree.specs.Composition.{profile_step as profile_step_of, profile_named, consumer as consumer_of, inherit as inherit_of, start as start_of, default_profile};
 ghost use Rattle.mlt_tree.specs.Loading.{Files, through};
 ghost use Rattle.mlt_tree.specs.Refusing.{over};
 ghost use Rattle.mlt_tree.specs.Sealing.{framed as framed_of};
-ghost use Rattle.mlt_graph.specs.Show.{profile_view};
-ghost use Rattle.melt_build.specs.Reads.{Takes, ReadGives};
+ghost use Rattle.mlt_base.specs.ProfileView.{measures_of};
+ghost use Rattle.melt_build.specs.Reads.{ReadGives};
 ghost use Rattle.melt_build.specs.State.{IsComposed, state_view};
 
 use crate::built::all_built;
@@ -17,26 +17,29 @@ use crate::object::Object;
 use crate::props::Given;
 use crate::sources::SourceTable;
 use crate::state::{Made, State};
-use mlt_base::{Profile, Rate, Try};
+use mlt_base::{DV_PAL, Profile, Rate, Try};
 use mlt_graph::{Graph, Level};
 use mlt_tree::{Cause, Group, GroupKind, Refusal};
 use std::alloc::{AllocError, Global};
 use std::mem;
 
 /// `dv_pal`.
-fn default_frames() -> Profile
-    ensures { profile_view result ≡ default_frames }
+fn default_profile() -> Profile
+    ensures { measures_of result ≡ default_profile }
 {
     Profile {
-        width: 720,
-        height: 576,
-        rate: Rate { num: 25, den: 1 },
+        width: DV_PAL.width,
+        height: DV_PAL.height,
+        rate: Rate {
+            num: DV_PAL.num,
+            den: DV_PAL.den,
+        },
     }
 }
 
 /// The first `-profile`; a second is refused.
 fn profile_named(found: Option<Profile>, group: &Group) -> Result<Option<Profile>, Refusal>
-    ensures { Takes (option_map profile_view) result (profile_named (option_map profile_view found) group.now) }
+    ensures { Gives (option_map measures_of) result (profile_named (option_map measures_of found) group.now) }
 {
     match found {
         Some(_) => Err(Refusal::at(group.place, Cause::TooMany { limit: 1 })),
@@ -49,7 +52,7 @@ fn profile_named(found: Option<Profile>, group: &Group) -> Result<Option<Profile
 
 #[tactic(auto, unfolding(mlt_tree::specs::Composition::profile_step))]
 fn profile_step(found: Option<Profile>, group: &Group) -> Result<Option<Profile>, Refusal>
-    ensures { Takes (option_map profile_view) result (profile_step_of (option_map profile_view found) group.now) }
+    ensures { Gives (option_map measures_of) result (profile_step_of (option_map measures_of found) group.now) }
 {
     match group.kind {
         GroupKind::Profile => profile_named(found, group),
@@ -59,7 +62,7 @@ fn profile_step(found: Option<Profile>, group: &Group) -> Result<Option<Profile>
 
 /// The profile that the groups name, if they name one.
 fn find_profile(groups: &[Group]) -> Result<Option<Profile>, Refusal>
-    ensures { Takes (option_map profile_view) result (over profile_step_of None groups.now) }
+    ensures { Gives (option_map measures_of) result (over profile_step_of None groups.now) }
 {
     let mut found = None;
     for group in groups {
@@ -71,10 +74,10 @@ fn find_profile(groups: &[Group]) -> Result<Option<Profile>, Refusal>
 /// The profile of the groups, none of which is not built.
 #[tactic(auto, unfolding(mlt_tree::specs::Sealing::framed))]
 fn framed(groups: &[Group]) -> Result<Profile, Refusal>
-    ensures { Takes profile_view result (framed_of groups.now) }
+    ensures { Gives measures_of result (framed_of groups.now) }
 {
     all_built(groups)?;
-    Ok(find_profile(groups)?.unwrap_or(default_frames()))
+    Ok(find_profile(groups)?.unwrap_or(default_profile()))
 }
 
 impl<'a> State<'a> {
@@ -84,9 +87,7 @@ impl<'a> State<'a> {
         ensures value { (files : Files) → ReadGives (λ _. state_view self.new) result (producer_of files (state_view self.old) group.now) }
         ensures composed { OnOk result (IsComposed self.new) }
     {
-        let Ok(own) = Object::read(alloc, group.props.as_slice()) else {
-            return Err(Try::Memory);
-        };
+        let own = Object::read(alloc, group.props.as_slice())?;
         let done = self.producer(alloc, group, &own);
         own.end();
         done
@@ -98,9 +99,7 @@ impl<'a> State<'a> {
         ensures value { TryGives (λ _. state_view self.new) result (consumer_of (state_view self.old) group.now) }
         ensures composed { OnOk result (IsComposed self.new) }
     {
-        let Ok(own) = Object::read(alloc, group.props.as_slice()) else {
-            return Err(Try::Memory);
-        };
+        let own = Object::read(alloc, group.props.as_slice())?;
         let none = Object::none(alloc);
         let given = Given {
             inherited: &none,
@@ -109,10 +108,7 @@ impl<'a> State<'a> {
         let done = self.consumer(group, given);
         none.end();
         own.end();
-        match done {
-            Ok(()) => Ok(()),
-            Err(refusal) => Err(Try::Fault(refusal)),
-        }
+        Ok(done?)
     }
 
     /// The properties that later producers inherit.
@@ -122,9 +118,7 @@ impl<'a> State<'a> {
         ensures value { TryGives (λ _. state_view self.new) result (inherit_of (state_view self.old) group.now) }
         ensures composed { OnOk result (IsComposed self.new) }
     {
-        let Ok(own) = Object::read(alloc, group.props.as_slice()) else {
-            return Err(Try::Memory);
-        };
+        let own = Object::read(alloc, group.props.as_slice())?;
         mem::replace(&mut self.inherited, own).end();
         Ok(())
     }
@@ -194,7 +188,7 @@ impl<'a> State<'a> {
 
 /// Before the first of so many words.
 fn start<'a>(alloc: Global, profile: Profile, count: u32) -> Result<State<'a>, AllocError>
-    ensures value { IfOk result (λ s. state_view s ≡ start_of (profile_view profile) count) }
+    ensures value { IfOk result (λ s. state_view s ≡ start_of (measures_of profile) count) }
     ensures composed { IfOk result IsComposed }
 {
     let level = Level::new(alloc)?;
@@ -223,13 +217,8 @@ pub(crate) fn composed<'a>(
     ensures value { (files : Files) → ReadGives state_view result (composed_of files count groups.now) }
     ensures composed { IfOk result IsComposed }
 {
-    let profile = match framed(groups) {
-        Ok(profile) => profile,
-        Err(refusal) => return Err(Try::Fault(refusal)),
-    };
-    let Ok(mut state) = start(alloc, profile, count) else {
-        return Err(Try::Memory);
-    };
+    let profile = framed(groups)?;
+    let mut state = start(alloc, profile, count)?;
     match state.effects(alloc, groups) {
         Ok(()) => Ok(state),
         Err(refusal) => {

@@ -1,6 +1,7 @@
 //! The consumer of a composition, as it is read.
 
 ghost use Rattle.std.specs.Prelude.{ℕ, ◌≤◌};
+ghost use Rattle.mlt_tree.specs.declared.services.TheConstants as row;
 
 use mlt_graph::Pix;
 
@@ -16,10 +17,10 @@ pub(crate) struct Consumer<'a> {
     pub cache: u32,
     pub first: Option<u32>,
     pub last: Option<u32>,
-    pub ghost few_workers: { workers ≤ 16 },
-    pub ghost some_buffer: { 1 ≤ buffer },
-    pub ghost short_buffer: { buffer ≤ 64 },
-    pub ghost some_slices: { 1 ≤ slices },
-    pub ghost few_slices: { slices ≤ 16 },
-    pub ghost small_cache: { cache ≤ 64 },
+    pub ghost few_workers: { workers ≤ row.REAL_TIME.high },
+    pub ghost some_buffer: { row.BUFFER.low ≤ buffer },
+    pub ghost short_buffer: { buffer ≤ row.BUFFER.high },
+    pub ghost some_slices: { row.SLICES.low ≤ slices },
+    pub ghost few_slices: { slices ≤ row.SLICES.high },
+    pub ghost small_cache: { cache ≤ row.CACHE.high },
 }

@@ -3,17 +3,17 @@
 ghost use Rattle.std.specs.Prelude.{◌≡◌, ◌≤◌, ◌<◌, ◌^◌, ◌++◌, ℕ, length, IfOk, IfSome, IsSome, IsTrue, fold};
 ghost use Rattle.std.specs.Option.{option_copied};
 ghost use Rattle.mlt_base.specs.Name.{is_spelled};
+ghost use Rattle.mlt_base.specs.ProfileView.{measures_of};
 ghost use Rattle.mlt_tree.specs.Props as meaning;
-ghost use Rattle.mlt_tree.specs.Props.{later as later_of, last_named, counted as counted_of, sized as sized_of, timed as timed_of, within as within_of, size_within, chosen as chosen_of};
-ghost use Rattle.mlt_tree.specs.Refusing.{refusal_at as refusal_of};
-ghost use Rattle.mlt_graph.specs.Show.{fraction};
+ghost use Rattle.mlt_tree.specs.Props.{later as later_of, last_named, counted as counted_of, distant as distant_of, timed as timed_of, within as within_of, distance_within, chosen as chosen_of};
 ghost use Rattle.melt_build.specs.Given.{props_in};
 ghost use Rattle.melt_build.specs.Object.{text_in};
 ghost use Rattle.melt_build.specs.Reads.{at_place};
 
 use crate::object::Object;
-use mlt_base::{Rate, read_time, read_whole};
-use mlt_tree::{Cause, Choice, Count, Moment, Number, Prop, Refusal, Size};
+use crate::refused;
+use mlt_base::{Profile, read_time, read_whole};
+use mlt_tree::{Cause, Choice, Count, Distance, Moment, Number, Prop, Refusal};
 
 /// This property where it has the name, else the one found before.
 fn later<'a>(found: Option<&'a Prop>, prop: &'a Prop, name: &str) -> Option<&'a Prop>
@@ -38,7 +38,7 @@ fn last_in<'a>(found: Option<&'a Prop>, props: &'a [Prop], name: &str) -> Option
 }
 
 /// The last property of the name, of the inherited ones and then the group's own.
-fn find<'a>(inherited: &'a [Prop], own: &'a [Prop], name: &str) -> Option<&'a Prop>
+fn last_named<'a>(inherited: &'a [Prop], own: &'a [Prop], name: &str) -> Option<&'a Prop>
     ensures { option_copied result ≡ last_named name.now (inherited.now ++ own.now) }
 {
     last_in(last_in(None, inherited, name), own, name)
@@ -66,16 +66,13 @@ pub(crate) fn counted(low: u32, high: u32, text: &str) -> Result<u32, Cause>
     ensures value { (place : ℕ) → at_place place result ≡ counted_of low high place text.now }
     ensures range { IfOk result (λ n. (low ≤ n) × (n ≤ high)) }
 {
-    match read_whole(text) {
-        Ok(value) => within(low, high, value),
-        Err(fault) => Err(Cause::BadNumber(fault)),
-    }
+    within(low, high, read_whole(text)?)
 }
 
 /// How far a whole number is from 0, at most `high`.
-fn size_of(high: u32, value: i64) -> Result<u32, Cause>
+fn distance_within(high: u32, value: i64) -> Result<u32, Cause>
     requires { high < 1000 }
-    ensures value { (place : ℕ) → at_place place result ≡ size_within high place value }
+    ensures value { (place : ℕ) → at_place place result ≡ distance_within high place value }
     ensures range { IfOk result (λ n. n ≤ high) }
 {
     let limit = i64::from(high);
@@ -90,28 +87,23 @@ fn size_of(high: u32, value: i64) -> Result<u32, Cause>
     }
 }
 
-#[tactic(auto, unfolding(mlt_tree::specs::Props::sized))]
-fn sized(high: u32, text: &str) -> Result<u32, Cause>
+#[tactic(auto, unfolding(mlt_tree::specs::Props::distant))]
+/// A text as a whole number at most `high` from 0.
+fn distant(high: u32, text: &str) -> Result<u32, Cause>
     requires { high < 1000 }
-    ensures value { (place : ℕ) → at_place place result ≡ sized_of high place text.now }
+    ensures value { (place : ℕ) → at_place place result ≡ distant_of high place text.now }
     ensures range { IfOk result (λ n. n ≤ high) }
 {
-    match read_whole(text) {
-        Ok(value) => size_of(high, value),
-        Err(fault) => Err(Cause::BadNumber(fault)),
-    }
+    distance_within(high, read_whole(text)?)
 }
 
 /// A text as a position.
 #[tactic(auto, unfolding(mlt_tree::specs::Props::timed))]
-pub(crate) fn timed(rate: Rate, text: &str) -> Result<u32, Cause>
-    ensures value { (place : ℕ) → at_place place result ≡ timed_of (fraction rate) place text.now }
+pub(crate) fn timed(profile: &Profile, text: &str) -> Result<u32, Cause>
+    ensures value { (place : ℕ) → at_place place result ≡ timed_of (measures_of profile.now) place text.now }
     ensures range { IfOk result (λ n. n < 2 ^ 31) }
 {
-    match read_time(text, rate) {
-        Ok(at) => Ok(at.0),
-        Err(fault) => Err(Cause::BadNumber(fault)),
-    }
+    Ok(read_time(text, profile.rate)?.0)
 }
 
 /// Whether a text is the second of a row's words.
@@ -147,13 +139,13 @@ impl Given<'_, '_> {
         }
     }
 
-    /// The refusal of a property's value, at its word.
-    fn refusal(&self, name: &str, cause: Cause) -> Refusal
+    /// The value of a property that is given, or the refusal of its word.
+    fn at_word<T>(&self, name: &str, read: Result<T, Cause>) -> Result<T, Refusal>
         requires { IsSome (last_named name.now (props_in self.now)) }
-        ensures { IfSome (last_named name.now (props_in self.now)) (λ prop. result ≡ refusal_of prop.place cause) }
+        ensures { IfSome (last_named name.now (props_in self.now)) (λ prop. result ≡ at_place prop.place read) }
     {
-        match find(self.inherited.words, self.own.words, name) {
-            Some(prop) => Refusal::at(prop.place, cause),
+        match last_named(self.inherited.words, self.own.words, name) {
+            Some(prop) => refused::at_place(prop.place, read),
             None => unreachable!(),
         }
     }
@@ -169,10 +161,7 @@ impl Given<'_, '_> {
         let Some(text) = self.text(name) else {
             return Ok(row.default);
         };
-        match counted(row.low, row.high, text) {
-            Ok(n) => Ok(n),
-            Err(cause) => Err(self.refusal(name, cause)),
-        }
+        self.at_word(name, counted(row.low, row.high, text))
     }
 
     /// The whole number of a row, where there is one.
@@ -185,27 +174,21 @@ impl Given<'_, '_> {
         let Some(text) = self.text(name) else {
             return Ok(None);
         };
-        match counted(row.low, row.high, text) {
-            Ok(n) => Ok(Some(n)),
-            Err(cause) => Err(self.refusal(name, cause)),
-        }
+        Ok(Some(self.at_word(name, counted(row.low, row.high, text))?))
     }
 
     /// The distance of a row's number from 0, or 0.
-    pub(crate) fn size(&self, row: &Size) -> Result<u32, Refusal>
+    pub(crate) fn distance(&self, row: &Distance) -> Result<u32, Refusal>
         requires name { IsTrue (is_spelled row.now.name) }
         requires high { row.now.high < 1000 }
-        ensures value { result ≡ meaning.size row.now (props_in self.now) }
+        ensures value { result ≡ meaning.distance row.now (props_in self.now) }
         ensures range { IfOk result (λ n. n ≤ row.now.high) }
     {
         let name = row.name.as_str();
         let Some(text) = self.text(name) else {
             return Ok(0);
         };
-        match sized(row.high, text) {
-            Ok(n) => Ok(n),
-            Err(cause) => Err(self.refusal(name, cause)),
-        }
+        self.at_word(name, distant(row.high, text))
     }
 
     /// Whether it is the second of a row's words.
@@ -217,41 +200,32 @@ impl Given<'_, '_> {
         let Some(text) = self.text(name) else {
             return Ok(false);
         };
-        match chosen(row, text) {
-            Ok(second) => Ok(second),
-            Err(cause) => Err(self.refusal(name, cause)),
-        }
+        self.at_word(name, chosen(row, text))
     }
 
     /// The position of a row, where there is one.
-    pub(crate) fn moment(&self, row: &Moment, rate: Rate) -> Result<Option<u32>, Refusal>
+    pub(crate) fn moment(&self, row: &Moment, profile: &Profile) -> Result<Option<u32>, Refusal>
         requires { IsTrue (is_spelled row.now.name) }
-        ensures value { result ≡ meaning.moment row.now (fraction rate) (props_in self.now) }
+        ensures value { result ≡ meaning.moment row.now (measures_of profile.now) (props_in self.now) }
         ensures range { IfOk result (λ given. IfSome given (λ n. n < 2 ^ 31)) }
     {
         let name = row.name.as_str();
         let Some(text) = self.text(name) else {
             return Ok(None);
         };
-        match timed(rate, text) {
-            Ok(n) => Ok(Some(n)),
-            Err(cause) => Err(self.refusal(name, cause)),
-        }
+        Ok(Some(self.at_word(name, timed(profile, text))?))
     }
 
     /// The position of a row, or the first.
-    pub(crate) fn moment_or_first(&self, row: &Moment, rate: Rate) -> Result<u32, Refusal>
+    pub(crate) fn moment_or_first(&self, row: &Moment, profile: &Profile) -> Result<u32, Refusal>
         requires { IsTrue (is_spelled row.now.name) }
-        ensures value { result ≡ meaning.moment_or_first row.now (fraction rate) (props_in self.now) }
+        ensures value { result ≡ meaning.moment_or_first row.now (measures_of profile.now) (props_in self.now) }
         ensures range { IfOk result (λ n. n < 2 ^ 31) }
     {
         let name = row.name.as_str();
         let Some(text) = self.text(name) else {
             return Ok(0);
         };
-        match timed(rate, text) {
-            Ok(n) => Ok(n),
-            Err(cause) => Err(self.refusal(name, cause)),
-        }
+        self.at_word(name, timed(profile, text))
     }
 }

@@ -2,7 +2,9 @@
 
 ghost use Rattle.std.specs.Prelude.{◌≡◌, ◌≤◌, ◌<◌, ◌+◌, ◌-◌, ◌^◌, ◌++◌, [], ◌∷◌, length, All, IfOk, None, unwrap_or};
 ghost use Rattle.std.specs.Option.{option_map};
-ghost use Rattle.mlt_base.specs.Try.{TryGives};
+ghost use Rattle.mlt_base.specs.declared.limits.TheConstants.{MOST_WRITTEN};
+ghost use Rattle.mlt_base.specs.ProfileView.{measures_of};
+ghost use Rattle.mlt_base.specs.Try.{Gives, TryGives};
 ghost use Rattle.mlt_tree.specs.Composition.{State as StateOf};
 ghost use Rattle.mlt_tree.specs.Sealing.{unit_of, bytes_of, few_frames as few_frames_of, few_bytes as few_bytes_of, ranged as ranged_of, sealable, show_of_tree as show_of_tree_of, seal as seal_of, settings_of, default_consumer as default_of};
 ghost use Rattle.mlt_tree.specs.Sources.{Fits};
@@ -10,9 +12,8 @@ ghost use Rattle.mlt_tree.specs.Tree.{len};
 ghost use Rattle.mlt_tree.specs.Unbuilt.{IsPlayed};
 ghost use Rattle.mlt_tree.specs.Units.{IsEntryBelow, drafts_of, tractor_of};
 ghost use Rattle.mlt_graph.specs.Sealed.{tree};
-ghost use Rattle.mlt_graph.specs.Show.{profile_view, output_view, meant};
+ghost use Rattle.mlt_graph.specs.Show.{output_view, meant};
 ghost use Rattle.melt_build.specs.Built.{refusal_of};
-ghost use Rattle.melt_build.specs.Reads.{Takes};
 ghost use Rattle.melt_build.specs.State.{IsComposed, consumer_view, cut_view, state_view};
 
 use crate::clips::cut_of;
@@ -20,6 +21,7 @@ use crate::consumer::Consumer;
 use crate::sources::SourceTable;
 use crate::state::{Made, State};
 use crate::wanted::Cut;
+use mlt_base::limits::{MOST_BYTES, MOST_WRITTEN};
 use mlt_base::{Pos, Profile, Text, Try};
 use mlt_graph::{Format, Graph, GraphFault, Level, Output, Pix, Sealed, Show};
 use mlt_tree::{Cause, Refusal, services as row};
@@ -27,7 +29,7 @@ use std::alloc::{AllocError, Global};
 
 /// The bytes of one picture or of one pair's sound in a frame, whichever is more.
 fn unit_of(profile: &Profile) -> u64
-    ensures value { result ≡ unit_of (profile_view profile.now) }
+    ensures value { result ≡ unit_of (measures_of profile.now) }
     ensures small { result ≤ 2 ^ 26 }
 {
     let picture = u64::from(profile.width) * u64::from(profile.height) * 4;
@@ -38,20 +40,21 @@ fn unit_of(profile: &Profile) -> u64
 /// The bytes that a run holds at most, where one evaluation holds so many buffers.
 fn bytes_of(profile: &Profile, c: &Consumer<'_>, need: u32) -> u64
     requires { need ≤ 4369 }
-    ensures { result ≡ bytes_of (profile_view profile.now) (consumer_view c.now) need }
+    ensures { result ≡ bytes_of (measures_of profile.now) (consumer_view c.now) need }
 {
     let hands = u64::from(c.workers) + 1;
     unit_of(profile) * (u64::from(c.buffer) + hands * u64::from(need) + u64::from(c.cache))
 }
 
+/// A range of not too many frames.
 fn few_frames(count: u32, range: Cut) -> Result<Cut, Refusal>
     requires { range.last < 2 ^ 31 }
-    ensures value { Takes cut_view result (few_frames_of count (cut_view range)) }
+    ensures value { Gives cut_view result (few_frames_of count (cut_view range)) }
     ensures same { IfOk result (λ c. c ≡ range) }
-    ensures few { IfOk result (λ c. c.last + 1 - c.first ≤ 1000000) }
+    ensures few { IfOk result (λ c. c.last + 1 - c.first ≤ MOST_WRITTEN) }
 {
     let frames = (range.last + 1).saturating_sub(range.first);
-    if frames <= 1_000_000 {
+    if frames <= MOST_WRITTEN {
         Ok(range)
     } else {
         Err(Refusal::at(
@@ -63,11 +66,12 @@ fn few_frames(count: u32, range: Cut) -> Result<Cut, Refusal>
     }
 }
 
+/// The range, where a run of it holds not too many bytes.
 fn few_bytes(count: u32, bytes: u64, range: Cut) -> Result<Cut, Refusal>
-    ensures value { Takes cut_view result (few_bytes_of count bytes (cut_view range)) }
+    ensures value { Gives cut_view result (few_bytes_of count bytes (cut_view range)) }
     ensures same { IfOk result (λ c. c ≡ range) }
 {
-    if bytes <= 2_147_483_648 {
+    if bytes <= MOST_BYTES {
         Ok(range)
     } else {
         Err(Refusal::at(count, Cause::TooLarge { bytes }))
@@ -78,9 +82,9 @@ fn few_bytes(count: u32, bytes: u64, range: Cut) -> Result<Cut, Refusal>
 #[tactic(auto, unfolding(mlt_tree::specs::Sealing::ranged))]
 fn ranged(count: u32, profile: &Profile, c: &Consumer<'_>, sealed: &Sealed) -> Result<Cut, Refusal>
     requires { 1 ≤ len (tree sealed.now) }
-    ensures value { Takes cut_view result (ranged_of count (profile_view profile.now) (consumer_view c.now) (tree sealed.now)) }
+    ensures value { Gives cut_view result (ranged_of count (measures_of profile.now) (consumer_view c.now) (tree sealed.now)) }
     ensures ordered { IfOk result (λ range. (range.first ≤ range.last) × (range.last < len (tree sealed.now))) }
-    ensures few { IfOk result (λ range. range.last + 1 - range.first ≤ 1000000) }
+    ensures few { IfOk result (λ range. range.last + 1 - range.first ≤ MOST_WRITTEN) }
 {
     let range = cut_of(c.place, sealed.length(), c.first.unwrap_or(0), c.last)?;
     let range = few_frames(count, range)?;
@@ -107,7 +111,7 @@ fn default_consumer() -> Consumer<'static>
 /// The settings of the consumer, on a range of positions.
 fn settings_of(alloc: Global, c: &Consumer<'_>, range: Cut) -> Result<Output, AllocError>
     requires ordered { range.first ≤ range.last }
-    requires few { range.last + 1 - range.first ≤ 1000000 }
+    requires few { range.last + 1 - range.first ≤ MOST_WRITTEN }
     ensures value { IfOk result (λ output. output_view output ≡ settings_of (consumer_view c.now) (cut_view range)) }
     ensures last { IfOk result (λ output. output.last.0 ≡ range.last) }
     ensures silent { IfOk result (λ output. output.audio ≡ None) }
@@ -165,21 +169,19 @@ fn show_of_tree(
     consumer: Option<Consumer<'_>>,
     sealed: Sealed,
 ) -> Result<Show, Try<Refusal>>
-    ensures show { (s : StateOf) → s.frames ≡ profile_view profile → s.consumer ≡ option_map consumer_view consumer.entry →
+    ensures show { (s : StateOf) → s.profile ≡ measures_of profile → s.consumer ≡ option_map consumer_view consumer.entry →
         TryGives (λ show. meant show s.made.sources) result (show_of_tree_of count s (tree sealed)) }
     ensures tree { IfOk result (λ show. tree show.sealed ≡ tree sealed) }
     ensures silent { IfOk result (λ show. show.output.audio ≡ None) }
 {
     let c = consumer.unwrap_or(default_consumer());
     let range = ranged(count, &profile, &c, &sealed)?;
-    match settings_of(alloc, &c, range) {
-        Ok(output) => Ok(Show {
-            sealed,
-            profile,
-            output,
-        }),
-        Err(_) => Err(Try::Memory),
-    }
+    let output = settings_of(alloc, &c, range)?;
+    Ok(Show {
+        sealed,
+        profile,
+        output,
+    })
 }
 
 /// The composition at the end of so many words.
@@ -211,8 +213,5 @@ pub(crate) fn seal(
     } = made;
     inherited.end();
     let sealed = sealed(count, graph, level)?;
-    match show_of_tree(alloc, count, profile, consumer, sealed) {
-        Ok(show) => Ok((show, table)),
-        Err(refusal) => Err(refusal),
-    }
+    Ok((show_of_tree(alloc, count, profile, consumer, sealed)?, table))
 }

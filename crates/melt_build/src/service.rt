@@ -2,7 +2,7 @@
 
 ghost use Rattle.std.specs.Prelude.{◌≡◌, nat_eq, find};
 ghost use Rattle.std.specs.Option.{option_map, option_copied};
-ghost use Rattle.mlt_base.specs.Cut.{cut};
+ghost use Rattle.mlt_base.specs.SplitOnce.{split_once};
 ghost use Rattle.mlt_tree.specs.Services.{is_id, ends_in, producer_named, producer_of_file, stands_alone, with_arg, producer_of, raw_of, colour_name, output_name, by_id, raw_by_id};
 ghost use Rattle.melt_build.specs.Service.{named_view};
 
@@ -66,9 +66,9 @@ fn producer_of_file(file: &str) -> Option<Producer>
 }
 
 /// What stands before the first `:` of a word, and behind it.
-#[tactic(auto, using(std::proofs::lemmas::Str::Pattern::split_once_first), unfolding(mlt_base::specs::Cut::cut))]
-fn cut(word: &str) -> Option<(&str, &str)>
-    ensures { option_map (λ x. (x.0.now, x.1.now)) result ≡ cut 58 word.now }
+#[tactic(auto, using(std::proofs::lemmas::Str::Pattern::split_once_first), unfolding(mlt_base::specs::SplitOnce::split_once))]
+fn split_once(word: &str) -> Option<(&str, &str)>
+    ensures { option_map (λ x. (x.0.now, x.1.now)) result ≡ split_once 58 word.now }
 {
     word.split_once(':')
 }
@@ -85,9 +85,9 @@ fn with_arg(arg: &str, producer: Option<Producer>) -> Option<Named<'_>>
 
 /// The producer whose id stands before the first `:`.
 fn by_id(word: &str) -> Option<Named<'_>>
-    ensures { option_map named_view result ≡ by_id (cut 58 word.now) }
+    ensures { option_map named_view result ≡ by_id (split_once 58 word.now) }
 {
-    match cut(word) {
+    match split_once(word) {
         None => None,
         Some((id, arg)) => with_arg(arg, producer_named(id)),
     }
@@ -135,9 +135,9 @@ fn output_name(name: &str) -> &str
 
 /// The name of the output behind the first `:`, where `raw` stands before it.
 fn raw_by_id(word: &str) -> Option<&str>
-    ensures { option_copied result ≡ raw_by_id (cut 58 word.now) }
+    ensures { option_copied result ≡ raw_by_id (split_once 58 word.now) }
 {
-    match cut(word) {
+    match split_once(word) {
         None => None,
         Some((id, name)) => {
             if id.as_bytes() == RAW.as_bytes() {

@@ -109,10 +109,7 @@ fn show_of(alloc: Global, count: u32, groups: &[Group]) -> Result<(Show, SourceT
     ensures fits { IfOk result (λ made. Fits made.1 (tree made.0.sealed)) }
     ensures played { IfOk result (λ made. IsPlayed (meant made.0 made.1)) }
 {
-    match composed(alloc, count, groups) {
-        Ok(state) => seal(alloc, count, state),
-        Err(refusal) => Err(refusal),
-    }
+    seal(alloc, count, composed(alloc, count, groups)?)
 }
 
 /// Makes the show that groups mean, and the table of its sources; it loads the files that they name, of

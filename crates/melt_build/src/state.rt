@@ -2,9 +2,9 @@
 
 ghost use Rattle.std.specs.Prelude.{◌≡◌};
 ghost use Rattle.mlt_graph.specs.Show.{pix_of};
+ghost use Rattle.mlt_base.specs.Try.{Gives};
 ghost use Rattle.mlt_tree.specs.Composition.{pix_of as pix_of_choice, raw_output as raw_output_of, consumer as consumer_of};
 ghost use Rattle.melt_build.specs.Given.{props_in};
-ghost use Rattle.melt_build.specs.Reads.{Takes};
 ghost use Rattle.melt_build.specs.State.{IsComposed, state_view};
 
 use crate::consumer::Consumer;
@@ -74,17 +74,16 @@ impl<'a> State<'a> {
     ) -> Result<(), Refusal>
         requires composed { IsComposed self.old }
         requires own { props_in given ≡ group.now.props }
-        ensures value { Takes (λ _. state_view self.new) result (raw_output_of (state_view self.old) group.now video.now) }
+        ensures value { Gives (λ _. state_view self.new) result (raw_output_of (state_view self.old) group.now video.now) }
         ensures composed { IsComposed self.new }
     {
-        let rate = self.profile.rate;
         let rgba = given.choice(&row::PIX)?;
-        let workers = given.size(&row::REAL_TIME)?;
+        let workers = given.distance(&row::REAL_TIME)?;
         let buffer = given.count(&row::BUFFER)?;
         let slices = given.count(&row::SLICES)?;
         let cache = given.count(&row::CACHE)?;
-        let first = given.moment(&row::IN, rate)?;
-        let last = given.moment(&row::OUT, rate)?;
+        let first = given.moment(&row::IN, &self.profile)?;
+        let last = given.moment(&row::OUT, &self.profile)?;
         self.consumer = Some(Consumer {
             place: group.place,
             video,
@@ -104,7 +103,7 @@ impl<'a> State<'a> {
     pub(crate) fn consumer(&mut self, group: &'a Group, given: Given<'_, '_>) -> Result<(), Refusal>
         requires composed { IsComposed self.old }
         requires own { props_in given ≡ group.now.props }
-        ensures value { Takes (λ _. state_view self.new) result (consumer_of (state_view self.old) group.now) }
+        ensures value { Gives (λ _. state_view self.new) result (consumer_of (state_view self.old) group.now) }
         ensures composed { IsComposed self.new }
     {
         if let Some(_) = self.consumer {

@@ -8,9 +8,10 @@ ghost use Rattle.mlt_tree.specs.declared.refusal.Cause.{Cause};
 ghost use Rattle.melt_build.specs.State.{IsComposed, state_view};
 ghost use Rattle.melt_build.specs.Track.{IsLastIndex};
 
-use crate::edits::{edited, refused};
 use crate::props::{counted, timed};
+use crate::refused::{at_group, at_place, at_word, edited};
 use crate::state::State;
+use mlt_base::limits::MOST_ENTRIES;
 use mlt_base::{Try, read_whole};
 use mlt_tree::{Cause, Group, Refusal};
 
@@ -22,10 +23,8 @@ impl State<'_> {
         ensures value { TryGives (λ _. state_view self.new) result (blank_of (state_view self.old) group.now) }
         ensures composed { OnOk result (IsComposed self.new) }
     {
-        match timed(self.profile.rate, group.arg.as_str()) {
-            Err(cause) => Err(Try::Fault(Refusal::at(group.place, cause))),
-            Ok(last) => edited(group.place, self.level.last().blank(last)),
-        }
+        let last = at_place(group.place, timed(&self.profile, group.arg.as_str()))?;
+        edited(group.place, self.level.last().blank(last))
     }
 
     /// The index of the last entry, where there is one.
@@ -44,10 +43,8 @@ impl State<'_> {
         let Some(last) = self.last_index() else {
             return Err(Try::Fault(no_entry(group.place)));
         };
-        match self.level.last().remove(last) {
-            Ok(_) => Ok(()),
-            Err(fault) => Err(Try::Fault(refused(group.place, fault))),
-        }
+        at_group(group.place, self.level.last().remove(last))?;
+        Ok(())
     }
 
     /// Repeats the last entry, so that there are so many of it.
@@ -57,10 +54,7 @@ impl State<'_> {
         ensures value { TryGives (λ _. state_view self.new) result (repeat_of (state_view self.old) group.now) }
         ensures composed { OnOk result (IsComposed self.new) }
     {
-        let n = match counted(1, 100000, group.arg.as_str()) {
-            Ok(n) => n,
-            Err(cause) => return Err(Try::Fault(Refusal::at(group.place, cause))),
-        };
+        let n = at_place(group.place, counted(1, MOST_ENTRIES, group.arg.as_str()))?;
         let Some(last) = self.last_index() else {
             return Err(Try::Fault(no_entry(group.place)));
         };
@@ -86,13 +80,8 @@ impl State<'_> {
         ensures value { TryGives (λ _. state_view self.new) result (split_of (state_view self.old) group.now) }
         ensures composed { OnOk result (IsComposed self.new) }
     {
-        match read_whole(group.arg.as_str()) {
-            Ok(k) => self.split_at_frame(group, k),
-            Err(fault) => {
-                let cause = Cause::BadNumber(fault);
-                Err(Try::Fault(Refusal::at(group.place, cause)))
-            }
-        }
+        let k = at_word(group.place, read_whole(group.arg.as_str()))?;
+        self.split_at_frame(group, k)
     }
 
     /// Exchanges the last two entries.
@@ -101,10 +90,8 @@ impl State<'_> {
         ensures value { TryGives (λ _. state_view self.new) result (swap_of (state_view self.old) group.now) }
         ensures composed { OnOk result (IsComposed self.new) }
     {
-        match self.level.last().swap_last() {
-            Ok(()) => Ok(()),
-            Err(fault) => Err(Try::Fault(refused(group.place, fault))),
-        }
+        at_group(group.place, self.level.last().swap_last())?;
+        Ok(())
     }
 
     /// The last n entries as one clip of a new unit.
@@ -119,10 +106,8 @@ impl State<'_> {
         let list = self.level.last();
         let at = list.count().saturating_sub(n);
         let entries = edited(group.place, list.join(at, n, unit))?;
-        match self.made.graph.add_list(entries) {
-            Ok(_) => Ok(()),
-            Err(_) => Err(Try::Memory),
-        }
+        self.made.graph.add_list(entries)?;
+        Ok(())
     }
 
     /// Joins the last entries.
@@ -132,10 +117,8 @@ impl State<'_> {
         ensures value { TryGives (λ _. state_view self.new) result (join_of (state_view self.old) group.now) }
         ensures composed { OnOk result (IsComposed self.new) }
     {
-        match counted(1, 100000, group.arg.as_str()) {
-            Ok(n) => self.joined(group, n),
-            Err(cause) => Err(Try::Fault(Refusal::at(group.place, cause))),
-        }
+        let n = at_place(group.place, counted(1, MOST_ENTRIES, group.arg.as_str()))?;
+        self.joined(group, n)
     }
 }
 

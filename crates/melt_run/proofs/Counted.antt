@@ -6,7 +6,7 @@ use Rattle.melt_run.specs.Show.{texts}
 use Rattle.std.proofs.lemmas.Bool.Decides.{nat_tests}
 use Rattle.mlt_base.specs.declared.faults.WordFault.{WordFault}
 use Rattle.mlt_tree.specs.declared.group.Group.{Group}
-use Rattle.mlt_tree.specs.declared.group.TheConstants.{MOST_WORDS}
+use Rattle.mlt_base.specs.declared.limits.TheConstants.{MOST_WORDS}
 use Rattle.mlt_tree.specs.Words.{groups}
 
 by_test : (t : Bool) (n : ℕ) (fault : WordFault) (read : Result (List Group) WordFault) (gs : List Group) → ltb MOST_WORDS n ≡ t → cond t (Err fault) read ≡ Ok gs → n ≤ 10000

@@ -12,4 +12,3 @@ mod Played
 mod Tallies
 mod Tiled
 mod Walked
-mod Wrote

@@ -8,7 +8,7 @@ use Rattle.mlt_tree.specs.declared.refusal.Refusal.{Refusal}
 use Rattle.mlt_tree.specs.Lines.{refusal_line, memory_line}
 use Rattle.mlt_tree.specs.Loading as read
 use Rattle.mlt_tree.specs.Reading.{Reading, Play, Print, TextJob, job_text}
-use Rattle.mlt_tree.specs.Show.{Show, output_of, written_frames}
+use Rattle.mlt_tree.specs.Show.{Show, written_name, written_frames}
 use Rattle.melt_run.specs.declared.status.Status.{Status}
 use Rattle.melt_run.specs.declared.status.Status.TheVariants.{Done, Refused, SinkFault, Memory}
 use Rattle.melt_run.specs.declared.status.Tally.{Tally}
@@ -42,8 +42,8 @@ tells_from (x ∷ line) a b c port faults h =
 -- ---- a show that was played
 
 -- no output is the text
-no_text : (show : Show) (failed : Port) → output_of show failed ≢ None → failed ≢ Text
-no_text show failed some is = some (ap (output_of show) is)
+no_text : (show : Show) (failed : Port) → written_name show failed ≢ None → failed ≢ Text
+no_text show failed some is = some (ap (written_name show) is)
 
 -- each output is as before the line
 each_kept : (show : Show) (P : Port → List ℕ → Option PortState → Type 0) (b c : HostState) → ((port : Port) → port ≢ Text → c.port port ≡ b.port port) → EachOutput show (λ port name. P port name (b.port port)) → EachOutput show (λ port name. P port name (c.port port))
@@ -98,8 +98,8 @@ module _ (show : Show) (a b c : HostState) (line : OnlyPort Text b c) where
       line_told : Tells (line_of status) a c
       line_told = tells_from (line_of status) a b c text_port text_faults told
 
-      creates : (port : Port) → CreatesOnce (output_of show port) status (a.creates port) (c.creates port)
-      creates port = subst (CreatesOnce (output_of show port) status (a.creates port)) (sym (all_creates port)) (keeps.creates port)
+      creates : (port : Port) → CreatesOnce (written_name show port) status (a.creates port) (c.creates port)
+      creates port = subst (CreatesOnce (written_name show port) status (a.creates port)) (sym (all_creates port)) (keeps.creates port)
 
       pub show_ends : EndsShow show status a c
       show_ends = record {
@@ -161,12 +161,12 @@ module _ (show : Show) (a b c : HostState) (line : OnlyPort Text b c) where
           files = line.files ∙ keeps.files;
           loads = line.load_faults ∙ keeps.loads;
           never_falls = λ port. omega (arith, falls port, all_fall port);
-          once = λ port. once_of (output_of show port) (a.creates port) (c.creates port) (creates port);
+          once = λ port. once_of (written_name show port) (a.creates port) (c.creates port) (creates port);
         }
 
       pub show_nothing : IfMemory status (CreatesNothing a c)
       show_nothing = by status plays creates where
-        port_kept : (port : Port) (o : Option (List ℕ)) → output_of show port ≡ o → IfSome o (λ name. b.port port ≡ a.port port) → b.port port ≡ a.port port
+        port_kept : (port : Port) (o : Option (List ℕ)) → written_name show port ≡ o → IfSome o (λ name. b.port port ≡ a.port port) → b.port port ≡ a.port port
         port_kept port None none h = keeps.others port none
         port_kept port (Some name) is h = h
 
@@ -174,13 +174,13 @@ module _ (show : Show) (a b c : HostState) (line : OnlyPort Text b c) where
         not_created None old new h = h
         not_created (Some name) old new h = h
 
-        by : (status : Status) → Plays show status a b → ((port : Port) → CreatesOnce (output_of show port) status (a.creates port) (c.creates port)) → IfMemory status (CreatesNothing a c)
+        by : (status : Status) → Plays show status a b → ((port : Port) → CreatesOnce (written_name show port) status (a.creates port) (c.creates port)) → IfMemory status (CreatesNothing a c)
         by (Done tally) plays made = tt
         by (Refused refusal) plays made = tt
         by (SinkFault failed tally) plays made = tt
         by Memory plays made = record {
-          ports = λ port text. line.other_ports port text ∙ port_kept port (output_of show port) refl (plays port);
-          creates = λ port. not_created (output_of show port) (a.creates port) (c.creates port) (made port);
+          ports = λ port text. line.other_ports port text ∙ port_kept port (written_name show port) refl (plays port);
+          creates = λ port. not_created (written_name show port) (a.creates port) (c.creates port) (made port);
         }
 
 -- ---- a run that wrote on the text alone
@@ -264,7 +264,7 @@ module _ (a c : HostState) (only : OnlyPort Text a c) (text_creates : c.creates 
       plays = memory_plays show;
       rose = tt;
       others = λ port text none. only.other_ports port text;
-      creates = λ port. memory_created (output_of show port) port;
+      creates = λ port. memory_created (written_name show port) port;
       line = told;
     }
     by (Ok (Print job)) = record { prints = told; rest = only_tells }

@@ -8,7 +8,7 @@ use Rattle.mlt_tree.specs.declared.refusal.Refusal.{Refusal}
 use Rattle.mlt_tree.specs.Loading as read
 use Rattle.mlt_tree.specs.Loading.{Stop}
 use Rattle.mlt_tree.specs.Reading.{Reading, Play, Print, TextJob, Written, written, written_of}
-use Rattle.mlt_tree.specs.Show.{Show, output_of, written_frames, piece, prefix}
+use Rattle.mlt_tree.specs.Show.{Show, written_name, written_frames, piece, prefix}
 use Rattle.melt_run.specs.declared.status.Status.{Status}
 use Rattle.melt_run.specs.declared.status.Status.TheVariants.{Done, Refused, SinkFault, Memory}
 use Rattle.melt_run.specs.declared.status.Tally.{Tally}
@@ -25,14 +25,14 @@ if_some (Some x) f h = f x h
 
 module _ (show : Show) (port : Port) (old new : Option PortState) where
   -- it has them where it is an output, else it is as before
-  whole : (o : Option (List ℕ)) → output_of show port ≡ o → (output_of show port ≡ None → new ≡ old)
+  whole : (o : Option (List ℕ)) → written_name show port ≡ o → (written_name show port ≡ None → new ≡ old)
       → IfSome o (λ name. IfSome new (λ now. now ≡ fronted show port name (written_frames show))) → IsWritten (written_of show port o) old new
   whole None is other h = other is
   whole (Some name) is other h = h
 
 pub written_is : (reading : Reading) (status : Status) (a c : HostState) → Ends reading status a c → IfDone status (λ _. (port : Port) → port ≢ Text → IsWritten (written reading port) (a.port port) (c.port port))
 written_is (Ok (Play show)) (Done tally) a c ends = λ port apart.
-    whole show port (a.port port) (c.port port) (output_of show port) refl (ends.others port apart) (ends.plays.1 port)
+    whole show port (a.port port) (c.port port) (written_name show port) refl (ends.others port apart) (ends.plays.1 port)
 written_is (Ok (Print job)) (Done tally) a c ends = λ port apart. ends.rest.others port apart
 written_is (Err stop) (Done tally) a c ends = absurd ends.answer
 written_is reading (Refused refusal) a c ends = tt
@@ -154,16 +154,16 @@ apart_of Script failed b is first = cc
 apart_of Text failed b is first = cc
 
 module _ (show : Show) (port : Port) (old new : Option PortState) where
-  leaves_whole : (o : Option (List ℕ)) → output_of show port ≡ o → (output_of show port ≡ None → new ≡ old)
+  leaves_whole : (o : Option (List ℕ)) → written_name show port ≡ o → (written_name show port ≡ None → new ≡ old)
       → IfSome o (λ name. IfSome new (λ now. now ≡ fronted show port name (written_frames show))) → Leaves (written_of show port o) old new
   leaves_whole None is other h = other is
   leaves_whole (Some name) is other h = inr (if_some new (λ now eq. fronted_front show port name now (written_frames show) (omega arith) eq) h)
 
-  leaves_same : (o : Option (List ℕ)) → output_of show port ≡ o → (output_of show port ≡ None → new ≡ old) → IfSome o (λ name. new ≡ old) → Leaves (written_of show port o) old new
+  leaves_same : (o : Option (List ℕ)) → written_name show port ≡ o → (written_name show port ≡ None → new ≡ old) → IfSome o (λ name. new ≡ old) → Leaves (written_of show port o) old new
   leaves_same None is other h = other is
   leaves_same (Some name) is other h = inl h
 
-  leaves_uncreated : (failed : Port) (o : Option (List ℕ)) → output_of show port ≡ o → (output_of show port ≡ None → new ≡ old)
+  leaves_uncreated : (failed : Port) (o : Option (List ℕ)) → written_name show port ≡ o → (written_name show port ≡ None → new ≡ old)
       → IfSome o (λ name. IsUncreated (comes_before port failed) show port name old new) → Leaves (written_of show port o) old new
   leaves_uncreated failed None is other h = other is
   leaves_uncreated failed (Some name) is other h = by (comes_before port failed) h where
@@ -171,7 +171,7 @@ module _ (show : Show) (port : Port) (old new : Option PortState) where
     by true h = inr (if_some new (λ now eq. fronted_front show port name now 0 (omega arith) eq) h)
     by false h = inl h
 
-  leaves_cut : (failed : Port) (tally : Tally) → IsStopped show tally → (o : Option (List ℕ)) → output_of show port ≡ o → (output_of show port ≡ None → new ≡ old)
+  leaves_cut : (failed : Port) (tally : Tally) → IsStopped show tally → (o : Option (List ℕ)) → written_name show port ≡ o → (written_name show port ≡ None → new ≡ old)
       → IfSome o (λ name. IfSome new (IsCutAt show failed port name tally.frames)) → Leaves (written_of show port o) old new
   leaves_cut failed tally counts None is other h = other is
   leaves_cut failed tally counts (Some name) is other h =
@@ -180,14 +180,14 @@ module _ (show : Show) (port : Port) (old new : Option PortState) where
 show_front : (show : Show) (status : Status) (a c : HostState) → EndsShow show status a c → (port : Port) → port ≢ Text → Leaves (written (Ok (Play show)) port) (a.port port) (c.port port)
 show_front show status a c ends port apart = by status ends.plays where
   stops : (failed : Port) (tally : Tally) → Stops show failed tally a c → Leaves (written (Ok (Play show)) port) (a.port port) (c.port port)
-  stops failed tally (inl h) = leaves_uncreated show port (a.port port) (c.port port) failed (output_of show port) refl (ends.others port apart) (h.1 port)
-  stops failed tally (inr h) = leaves_cut show port (a.port port) (c.port port) failed tally h.counts (output_of show port) refl (ends.others port apart) (h.cut port)
+  stops failed tally (inl h) = leaves_uncreated show port (a.port port) (c.port port) failed (written_name show port) refl (ends.others port apart) (h.1 port)
+  stops failed tally (inr h) = leaves_cut show port (a.port port) (c.port port) failed tally h.counts (written_name show port) refl (ends.others port apart) (h.cut port)
 
   by : (status : Status) → Plays show status a c → Leaves (written (Ok (Play show)) port) (a.port port) (c.port port)
-  by (Done tally) plays = leaves_whole show port (a.port port) (c.port port) (output_of show port) refl (ends.others port apart) (plays.1 port)
+  by (Done tally) plays = leaves_whole show port (a.port port) (c.port port) (written_name show port) refl (ends.others port apart) (plays.1 port)
   by (Refused refusal) plays = absurd plays
   by (SinkFault failed tally) plays = stops failed tally plays.1
-  by Memory plays = leaves_same show port (a.port port) (c.port port) (output_of show port) refl (ends.others port apart) (plays port)
+  by Memory plays = leaves_same show port (a.port port) (c.port port) (written_name show port) refl (ends.others port apart) (plays port)
 
 -- each port that is not the text
 pub front_is : (reading : Reading) (status : Status) (a c : HostState) → Ends reading status a c → (port : Port) → port ≢ Text → Leaves (written reading port) (a.port port) (c.port port)
@@ -202,7 +202,7 @@ named_of show port None status old new h = h
 named_of show port (Some name) status old new h = h
 
 pub created_is : (reading : Reading) (status : Status) (a c : HostState) → Ends reading status a c → (port : Port) → IsCreatedOnce (written reading port) status (a.creates port) (c.creates port)
-created_is (Ok (Play show)) status a c ends port = named_of show port (output_of show port) status (a.creates port) (c.creates port) (ends.creates port)
+created_is (Ok (Play show)) status a c ends port = named_of show port (written_name show port) status (a.creates port) (c.creates port) (ends.creates port)
 created_is (Ok (Print job)) status a c ends port = ends.rest.creates port
 created_is (Err stop) status a c ends port = ends.rest.creates port
 

@@ -3,7 +3,7 @@ use Rattle.std.proofs.Common.{ℕ, ◌≡◌, ◌≢◌, ◌≤◌, List, Option
 use Rattle.mlt_base.specs.declared.port.Port.{Port}
 use Rattle.mlt_base.specs.declared.port.Port.TheVariants.{Video, Audio, Script, Text}
 use Rattle.mlt_host.specs.Host.{HostState, OnlyPort, Rose}
-use Rattle.mlt_tree.specs.Show.{Show, output_of, written_frames}
+use Rattle.mlt_tree.specs.Show.{Show, written_name, written_frames}
 use Rattle.melt_run.specs.declared.status.Status.{Status}
 use Rattle.melt_run.specs.declared.status.Status.TheVariants.{Done, SinkFault, Memory}
 use Rattle.melt_run.specs.declared.status.Tally.{Tally}
@@ -33,7 +33,7 @@ module _ (show : Show) (silent : show.output.audio ≡ None) where
     others_of only Script none = only.other_ports Script (λ e. cc)
     others_of only Text none = only.other_ports Text (λ e. cc)
 
-    creates_of : (status : Status) → OnlyPort Video a c → IsCreated status (a.creates Video) (c.creates Video) → (port : Port) → CreatesOnce (output_of show port) status (a.creates port) (c.creates port)
+    creates_of : (status : Status) → OnlyPort Video a c → IsCreated status (a.creates Video) (c.creates Video) → (port : Port) → CreatesOnce (written_name show port) status (a.creates port) (c.creates port)
     creates_of status only h Video = h
     creates_of status only h Audio = subst (λ o. CreatesOnce o status (a.creates Audio) (c.creates Audio)) (sym silent) (only.other_creates Audio (λ e. cc))
     creates_of status only h Script = only.other_creates Script (λ e. cc)
@@ -79,7 +79,7 @@ module _ (show : Show) (silent : show.output.audio ≡ None) where
     loads = refl;
     others = λ port none. refl;
     faults = λ port. refl;
-    creates = λ port. created_none (output_of show port) (a.creates port);
+    creates = λ port. created_none (written_name show port) (a.creates port);
   }
     where
       created_none : (o : Option (List ℕ)) (n : ℕ) → CreatesOnce o Memory n n

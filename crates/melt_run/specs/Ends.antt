@@ -7,7 +7,7 @@ use Rattle.mlt_tree.specs.Lines.{memory_line}
 use Rattle.mlt_tree.specs.Loading as read
 use Rattle.mlt_tree.specs.Loading.{Stop}
 use Rattle.mlt_tree.specs.Reading.{Reading, Play, Print, TextJob, job_text}
-use Rattle.mlt_tree.specs.Show.{Show, output_of}
+use Rattle.mlt_tree.specs.Show.{Show, written_name}
 use Rattle.melt_run.specs.declared.status.Status.{Status}
 use Rattle.melt_run.specs.declared.status.Status.TheVariants.{Done, Refused, SinkFault, Memory}
 use Rattle.melt_run.specs.Outcome.{Tells}
@@ -19,8 +19,8 @@ use Rattle.melt_run.specs.Status.{line_of, IfSinkFault}
 pub record EndsShow (show : Show) (status : Status) (old new : HostState) : Type 0 where
   pub plays : Plays show status old new
   pub rose : IfSinkFault status (λ port tally. Rose (old.faults port) (new.faults port))
-  pub others : (port : Port) → port ≢ Text → output_of show port ≡ None → new.port port ≡ old.port port
-  pub creates : (port : Port) → CreatesOnce (output_of show port) status (old.creates port) (new.creates port)
+  pub others : (port : Port) → port ≢ Text → written_name show port ≡ None → new.port port ≡ old.port port
+  pub creates : (port : Port) → CreatesOnce (written_name show port) status (old.creates port) (new.creates port)
   pub line : Tells (line_of status) old new
 
 -- no port but the text has changed

@@ -1,6 +1,7 @@
 pub mod Ends
 pub mod Found
 pub mod Outcome
+pub mod Pieces
 pub mod Pixels
 pub mod Play
 pub mod Prepared

@@ -7,7 +7,7 @@ use Rattle.mlt_host.specs.Count.{next}
 use Rattle.mlt_host.specs.Host.{PortState, HostState, Rose, Appends, AppendsFront}
 use Rattle.mlt_tree.specs.Lines.{refusal_line, sink_line, memory_line}
 use Rattle.mlt_tree.specs.Reading.{Reading, Play, Print, Written, job_port, text_bytes}
-use Rattle.mlt_tree.specs.Show.{output_of, written_frames}
+use Rattle.mlt_tree.specs.Show.{written_name, written_frames}
 use Rattle.melt_run.specs.declared.status.Tally.{Tally}
 use Rattle.melt_run.specs.declared.status.Status.{Status}
 use Rattle.melt_run.specs.declared.status.Status.TheVariants.{Done, Refused, SinkFault, Memory}
@@ -53,7 +53,7 @@ IsWholeTally (Err stop) tally = ⊥
 -- a port that the run writes has failed: each output has the positions before the fault, and the failed one a part of the next
 abbrev pub FailsAt : Reading → Port → Tally → HostState → HostState → Type 0
 FailsAt (Ok (Play show)) port tally old new =
-    (output_of show port ≢ None) × Rose (old.faults port) (new.faults port) × Stops show port tally old new
+    (written_name show port ≢ None) × Rose (old.faults port) (new.faults port) × Stops show port tally old new
 FailsAt (Ok (Print job)) port tally old new =
     (port ≡ job_port job) × (tally ≡ no_tally) × Rose (old.faults port) (new.faults port)
 FailsAt (Err stop) port tally old new = ⊥

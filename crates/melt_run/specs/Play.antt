@@ -4,7 +4,7 @@ use Rattle.mlt_base.specs.declared.port.Port.{Port}
 use Rattle.mlt_base.specs.declared.port.Port.TheVariants.{Video, Audio, Script, Text}
 use Rattle.mlt_host.specs.Count.{next}
 use Rattle.mlt_host.specs.Host.{PortState, HostState, Rose}
-use Rattle.mlt_tree.specs.Show.{Show, output_of, written_frames, piece, prefix, loads_to}
+use Rattle.mlt_tree.specs.Show.{Show, written_name, written_frames, piece, prefix, loads_to}
 use Rattle.melt_run.specs.declared.status.Tally.{Tally}
 use Rattle.melt_run.specs.declared.status.Status.{Status}
 use Rattle.melt_run.specs.declared.status.Status.TheVariants.{Done, Refused, SinkFault, Memory}
@@ -32,7 +32,7 @@ pub record IsStopped (show : Show) (tally : Tally) : Type 0 where
 
 -- the outputs that a show writes, each by its port and its name
 abbrev pub EachOutput : Show → (Port → List ℕ → Type 0) → Type 0
-EachOutput show P = (port : Port) → IfSome (output_of show port) (P port)
+EachOutput show P = (port : Port) → IfSome (written_name show port) (P port)
 
 -- an output that has exactly the first so many positions, all of them acknowledged
 abbrev pub fronted : Show → Port → List ℕ → ℕ → PortState
@@ -76,14 +76,14 @@ Stops show failed tally old new =
 
 -- the ports that a show does not write
 abbrev pub EachOther : Show → (Port → Type 0) → Type 0
-EachOther show P = (port : Port) → output_of show port ≡ None → P port
+EachOther show P = (port : Port) → written_name show port ≡ None → P port
 
 -- what the outputs have got
 abbrev pub Plays : Show → Status → HostState → HostState → Type 0
 Plays show (Done tally) old new =
     (tally ≡ full_tally show (written_frames show)) × EachOutput show (λ port name. IfSome (new.port port) (λ now. now ≡ fronted show port name (written_frames show)))
 Plays show (Refused refusal) old new = ⊥
-Plays show (SinkFault failed tally) old new = (output_of show failed ≢ None) × Stops show failed tally old new
+Plays show (SinkFault failed tally) old new = (written_name show failed ≢ None) × Stops show failed tally old new
 Plays show Memory old new = EachOutput show (λ port name. new.port port ≡ old.port port)
 
 -- ---- the counts
@@ -115,4 +115,4 @@ pub record KeepsElse (show : Show) (status : Status) (old new : HostState) : Typ
   pub loads : new.load_faults ≡ old.load_faults
   pub others : EachOther show (λ port. new.port port ≡ old.port port)
   pub faults : CountsFaults status old.faults new.faults
-  pub creates : (port : Port) → CreatesOnce (output_of show port) status (old.creates port) (new.creates port)
+  pub creates : (port : Port) → CreatesOnce (written_name show port) status (old.creates port) (new.creates port)

@@ -10,7 +10,7 @@ use Rattle.mlt_graph.specs.declared.show.Show.{Show}
 use Rattle.mlt_host.specs.Host.{HostState}
 use Rattle.melt_run.specs.declared.prepared.Prepared.{Prepared}
 use Rattle.melt_run.specs.declared.prepared.Prepared.TheVariants.{Play, Text, Refused, Memory}
-use Rattle.melt_run.specs.Text.{job_of}
+use Rattle.melt_run.specs.Text.{job_view}
 
 -- what holds of the words' meaning, where the host tells the files that they name, if they name any
 abbrev pub Meant : List (List ℕ) → HostState → (Reading → Type 0) → Type 0
@@ -19,14 +19,14 @@ Meant words host P = IfSome (reading_on words host.files) P
 -- what is prepared is what the words mean, unless memory was wanting
 abbrev pub Means : Prepared → Reading → Type 0
 Means (Play show table) reading = reading ≡ Ok (meaning.Play (meant show table))
-Means (Text job) reading = reading ≡ Ok (meaning.Print (job_of job))
+Means (Text job) reading = reading ≡ Ok (meaning.Print (job_view job))
 Means (Refused refusal) reading = reading ≡ Err (read.Refused refusal)
 Means Memory reading = Unit {0}
 
 -- the same of words that look up no file
 abbrev pub Reads : Prepared → Read Job → Type 0
 Reads (Play show table) wanted = wanted ≡ read.done (meaning.Play (meant show table))
-Reads (Text job) wanted = wanted ≡ read.done (meaning.Print (job_of job))
+Reads (Text job) wanted = wanted ≡ read.done (meaning.Print (job_view job))
 Reads (Refused refusal) wanted = wanted ≡ read.stopped (read.Refused refusal)
 Reads Memory wanted = Unit {0}
 

@@ -4,6 +4,6 @@ use Rattle.melt_run.specs.declared.text.TextJob.{TextJob}
 use Rattle.melt_run.specs.declared.text.TextJob.TheVariants.{Version, Query}
 
 -- a question as the definitions see it
-abbrev pub job_of : TextJob → meaning.TextJob
-job_of Version = meaning.Version
-job_of (Query asked) = meaning.Query asked
+abbrev pub job_view : TextJob → meaning.TextJob
+job_view Version = meaning.Version
+job_view (Query asked) = meaning.Query asked

@@ -1,9 +1,8 @@
 //! The line that tells a person how a run ended, written into a fixed array.
 
-ghost use Rattle.std.specs.Prelude.{◌≡◌, ◌≤◌, ◌<◌, ◌+◌, ◌++◌, [], length, take, drop, codes, decimal};
-ghost use Rattle.std.specs.Fmt.{signed_decimal};
-ghost use Rattle.mlt_tree.specs.declared.refusal.Cause.TheVariants.{OutOfRange, TooFew, BadClip, BadSplit, BadRange, TooMany, TooLong, TooDeep, TooLarge};
-ghost use Rattle.mlt_tree.specs.Lines.{cause_text, inner_text, port_text, refusal_line, sink_line, memory_line};
+ghost use Rattle.std.specs.Prelude.{◌≡◌, ◌≤◌, ◌<◌, ◌+◌, ◌*◌, ◌++◌, [], All, length, map, take, drop};
+ghost use Rattle.mlt_tree.specs.Lines.{Count, piece_text, text_of, words, cause_pieces, inner_pieces, port_text, refusal_line, sink_line, memory_line};
+ghost use Rattle.melt_run.specs.Pieces.{piece_view, IsShort};
 ghost use Rattle.melt_run.specs.Status.{line_of};
 
 use crate::status::Status;
@@ -12,12 +11,24 @@ use mlt_base::Port;
 use mlt_tree::{Cause, Refusal};
 use std::marker::Model;
 
-const ROOM: usize = 256;
+/// A piece of a line: words, or a number in decimal digits. It has at most 40 bytes.
+#[derive(Clone, Copy)]
+pub(crate) enum Piece {
+    Words(&'static str),
+    Count(u64),
+    Number(i64),
+}
 
-/// A line of at most 256 bytes, seen as its bytes.
+/// No words, behind the pieces of a short text.
+const NOTHING: Piece = Piece::Words("");
+
+/// Room for the longest line, which has 13 pieces.
+const ROOM: usize = 520;
+
+/// A line of at most 520 bytes, seen as its bytes.
 #[derive(Drop)]
 pub struct Line {
-    bytes: [u8; 256],
+    bytes: [u8; 520],
     length: usize,
 }
 
@@ -28,7 +39,7 @@ impl Model for Line {
 
     ghost view = { λ l. take l.length l.bytes };
 
-    ghost invariant = { λ l. l.length ≤ 256 };
+    ghost invariant = { λ l. l.length ≤ 520 };
 }
 
 /// Puts the text into the bytes from a place on.
@@ -50,6 +61,7 @@ impl Line {
         }
     }
 
+    /// Its bytes.
     pub fn as_slice(&self) -> &[u8]
         ensures { result.now ≡ self.now }
     {
@@ -57,174 +69,179 @@ impl Line {
     }
 
     /// Adds the text at the end.
-    fn text(&mut self, text: &[u8])
-        requires { length self.old + length text.now ≤ 256 }
+    fn text(&mut self, text: &str)
+        requires { length self.old + length text.now ≤ 520 }
         ensures { self.new ≡ self.old ++ text.now }
     {
-        put(&mut self.bytes, self.length, text);
+        put(&mut self.bytes, self.length, text.as_bytes());
         self.length += text.len();
     }
 
-    /// Adds the number in decimal digits.
-    fn count(&mut self, n: u32)
-        requires { length self.old + 20 ≤ 256 }
-        ensures text { self.new ≡ self.old ++ decimal n }
-        ensures short { length self.new ≤ length self.old + 20 }
+    /// Adds a piece at the end.
+    fn piece(&mut self, piece: Piece)
+        requires short { IsShort piece }
+        requires room { length self.old + 40 ≤ 520 }
+        ensures text { self.new ≡ self.old ++ piece_text (piece_view piece) }
+        ensures short { length self.new ≤ length self.old + 40 }
     {
         let mut buffer = Buffer::new();
-        self.text(buffer.format(n).as_bytes());
+        match piece {
+            Piece::Words(words) => self.text(words),
+            Piece::Count(n) => self.text(buffer.format(n)),
+            Piece::Number(n) => self.text(buffer.format(n)),
+        }
     }
 
-    /// Adds the number in decimal digits.
-    fn number(&mut self, n: u64)
-        requires { length self.old + 20 ≤ 256 }
-        ensures text { self.new ≡ self.old ++ decimal n }
-        ensures short { length self.new ≤ length self.old + 20 }
+    /// Adds pieces, one after another.
+    fn pieces(&mut self, pieces: &[Piece])
+        requires short { All IsShort pieces.now }
+        requires room { length self.old + length pieces.now * 40 ≤ 520 }
+        ensures text { self.new ≡ self.old ++ text_of (map piece_view pieces.now) }
+        ensures short { length self.new ≤ length self.old + length pieces.now * 40 }
     {
-        let mut buffer = Buffer::new();
-        self.text(buffer.format(n).as_bytes());
-    }
-
-    /// Adds the number in decimal digits, behind a `-` where it is below 0.
-    fn signed(&mut self, n: i64)
-        requires { length self.old + 20 ≤ 256 }
-        ensures text { self.new ≡ self.old ++ signed_decimal n }
-        ensures short { length self.new ≤ length self.old + 20 }
-    {
-        let mut buffer = Buffer::new();
-        self.text(buffer.format(n).as_bytes());
-    }
-
-    fn out_of_range(&mut self, value: i64, low: i64, high: i64)
-        requires { length self.old + 80 ≤ 256 }
-        ensures text { self.new ≡ self.old ++ cause_text (OutOfRange value low high) }
-        ensures short { length self.new ≤ length self.old + 80 }
-    {
-        self.signed(value);
-        self.text(b" is outside ");
-        self.signed(low);
-        self.text(b" to ");
-        self.signed(high);
-    }
-
-    fn too_few(&mut self, asked: u32, there: u32)
-        requires { length self.old + 80 ≤ 256 }
-        ensures text { self.new ≡ self.old ++ cause_text (TooFew asked there) }
-        ensures short { length self.new ≤ length self.old + 80 }
-    {
-        self.count(asked);
-        self.text(b" wanted, ");
-        self.count(there);
-        self.text(b" there");
-    }
-
-    fn bad_clip(&mut self, index: u32, count: u32)
-        requires { length self.old + 80 ≤ 256 }
-        ensures text { self.new ≡ self.old ++ cause_text (BadClip index count) }
-        ensures short { length self.new ≤ length self.old + 80 }
-    {
-        self.text(b"no clip at ");
-        self.count(index);
-        self.text(b" of ");
-        self.count(count);
-    }
-
-    fn bad_split(&mut self, at: i64, frames: u32)
-        requires { length self.old + 80 ≤ 256 }
-        ensures text { self.new ≡ self.old ++ cause_text (BadSplit at frames) }
-        ensures short { length self.new ≤ length self.old + 80 }
-    {
-        self.text(b"cannot split ");
-        self.count(frames);
-        self.text(b" frames at ");
-        self.signed(at);
-    }
-
-    fn bad_range(&mut self, first: u32, last: u32, frames: u32)
-        requires { length self.old + 80 ≤ 256 }
-        ensures text { self.new ≡ self.old ++ cause_text (BadRange first last frames) }
-        ensures short { length self.new ≤ length self.old + 80 }
-    {
-        self.text(b"bad range ");
-        self.count(first);
-        self.text(b" to ");
-        self.count(last);
-        self.text(b" of ");
-        self.count(frames);
-    }
-
-    fn too_many(&mut self, limit: u32)
-        requires { length self.old + 80 ≤ 256 }
-        ensures text { self.new ≡ self.old ++ cause_text (TooMany limit) }
-        ensures short { length self.new ≤ length self.old + 80 }
-    {
-        self.text(b"more than ");
-        self.count(limit);
-    }
-
-    fn too_long(&mut self, frames: u64)
-        requires { length self.old + 80 ≤ 256 }
-        ensures text { self.new ≡ self.old ++ cause_text (TooLong frames) }
-        ensures short { length self.new ≤ length self.old + 80 }
-    {
-        self.number(frames);
-        self.text(b" frames are too many");
-    }
-
-    fn too_deep(&mut self, depth: u32)
-        requires { length self.old + 80 ≤ 256 }
-        ensures text { self.new ≡ self.old ++ cause_text (TooDeep depth) }
-        ensures short { length self.new ≤ length self.old + 80 }
-    {
-        self.text(b"nested ");
-        self.count(depth);
-        self.text(b" deep");
-    }
-
-    fn too_large(&mut self, bytes: u64)
-        requires { length self.old + 80 ≤ 256 }
-        ensures text { self.new ≡ self.old ++ cause_text (TooLarge bytes) }
-        ensures short { length self.new ≤ length self.old + 80 }
-    {
-        self.number(bytes);
-        self.text(b" bytes are too many");
-    }
-
-    /// Adds the text of a cause.
-    fn cause(&mut self, cause: Cause)
-        requires { length self.old + 80 ≤ 256 }
-        ensures text { self.new ≡ self.old ++ cause_text cause }
-        ensures short { length self.new ≤ length self.old + 80 }
-    {
-        match cause {
-            Cause::UnknownOption => self.text(b"unknown option"),
-            Cause::Unsupported => self.text(b"option not supported"),
-            Cause::MissingArgument => self.text(b"argument missing"),
-            Cause::StrayProperty => self.text(b"property without an object"),
-            Cause::UnknownService => self.text(b"unknown service"),
-            Cause::BadValue => self.text(b"bad value"),
-            Cause::BadNumber(_) => self.text(b"bad number"),
-            Cause::OutOfRange { value, low, high } => self.out_of_range(value, low, high),
-            Cause::TooFew { asked, there } => self.too_few(asked, there),
-            Cause::BadClip { index, count } => self.bad_clip(index, count),
-            Cause::BadSplit { at, frames } => self.bad_split(at, frames),
-            Cause::BadRange {
-                first,
-                last,
-                length,
-            } => self.bad_range(first, last, length),
-            Cause::NoProducer => self.text(b"nothing to play"),
-            Cause::TooMany { limit } => self.too_many(limit),
-            Cause::TooLong { frames } => self.too_long(frames),
-            Cause::TooDeep { depth } => self.too_deep(depth),
-            Cause::TooLarge { bytes } => self.too_large(bytes),
+        for piece in pieces {
+            self.piece(*piece);
         }
     }
 }
 
-fn port_name(port: Port) -> &'static str
+/// A number of things, as a piece.
+fn count(n: u32) -> Piece
+    ensures text { piece_view result ≡ Count n }
+    ensures short { IsShort result }
+{
+    Piece::Count(u64::from(n))
+}
+
+/// Words alone.
+fn words(text: &'static str) -> [Piece; 6]
+    requires { length text.now ≤ 40 }
+    ensures text { text_of (map piece_view result) ≡ text_of (words text.now) }
+    ensures short { All IsShort result }
+{
+    [
+        Piece::Words(text),
+        NOTHING,
+        NOTHING,
+        NOTHING,
+        NOTHING,
+        NOTHING,
+    ]
+}
+
+/// The pieces of a cause's text, and nothing behind them.
+fn cause_pieces(cause: Cause) -> [Piece; 6]
+    ensures text { text_of (map piece_view result) ≡ text_of (cause_pieces cause) }
+    ensures short { All IsShort result }
+{
+    use Piece::{Count, Number, Words};
+    match cause {
+        Cause::UnknownOption => words("unknown option"),
+        Cause::Unsupported => words("option not supported"),
+        Cause::MissingArgument => words("argument missing"),
+        Cause::StrayProperty => words("property without an object"),
+        Cause::UnknownService => words("unknown service"),
+        Cause::BadValue => words("bad value"),
+        Cause::BadNumber(_) => words("bad number"),
+        Cause::OutOfRange { value, low, high } => [
+            Number(value),
+            Words(" is outside "),
+            Number(low),
+            Words(" to "),
+            Number(high),
+            NOTHING,
+        ],
+        Cause::TooFew { asked, there } => [
+            count(asked),
+            Words(" wanted, "),
+            count(there),
+            Words(" there"),
+            NOTHING,
+            NOTHING,
+        ],
+        Cause::BadClip { index, count: there } => [
+            Words("no clip at "),
+            count(index),
+            Words(" of "),
+            count(there),
+            NOTHING,
+            NOTHING,
+        ],
+        Cause::BadSplit { at, frames } => [
+            Words("cannot split "),
+            count(frames),
+            Words(" frames at "),
+            Number(at),
+            NOTHING,
+            NOTHING,
+        ],
+        Cause::BadRange {
+            first,
+            last,
+            length,
+        } => [
+            Words("bad range "),
+            count(first),
+            Words(" to "),
+            count(last),
+            Words(" of "),
+            count(length),
+        ],
+        Cause::NoProducer => words("nothing to play"),
+        Cause::TooMany { limit } => [
+            Words("more than "),
+            count(limit),
+            NOTHING,
+            NOTHING,
+            NOTHING,
+            NOTHING,
+        ],
+        Cause::TooLong { frames } => [
+            Count(frames),
+            Words(" frames are too many"),
+            NOTHING,
+            NOTHING,
+            NOTHING,
+            NOTHING,
+        ],
+        Cause::TooDeep { depth } => [
+            Words("nested "),
+            count(depth),
+            Words(" deep"),
+            NOTHING,
+            NOTHING,
+            NOTHING,
+        ],
+        Cause::TooLarge { bytes } => [
+            Count(bytes),
+            Words(" bytes are too many"),
+            NOTHING,
+            NOTHING,
+            NOTHING,
+            NOTHING,
+        ],
+    }
+}
+
+/// The pieces of a place within a file, where there is one.
+fn inner_pieces(place: Option<u32>) -> [Piece; 3]
+    ensures text { text_of (map piece_view result) ≡ text_of (inner_pieces place) }
+    ensures short { All IsShort result }
+{
+    match place {
+        None => [NOTHING, NOTHING, NOTHING],
+        Some(place) => [
+            Piece::Words("in file word "),
+            count(place),
+            Piece::Words(": "),
+        ],
+    }
+}
+
+/// The name of a port.
+fn port_text(port: Port) -> &'static str
     ensures text { result.now ≡ port_text port }
-    ensures short { length result.now ≤ 6 }
+    ensures short { length result.now ≤ 40 }
 {
     match port {
         Port::Video => "video",
@@ -234,49 +251,39 @@ fn port_name(port: Port) -> &'static str
     }
 }
 
-impl Line {
-    /// Adds the place in a file, where there is one.
-    fn inner(&mut self, place: Option<u32>)
-        requires { length self.old + 60 ≤ 256 }
-        ensures text { self.new ≡ self.old ++ inner_text place }
-        ensures short { length self.new ≤ length self.old + 60 }
-    {
-        if let Some(place) = place {
-            self.text(b"in file word ");
-            self.count(place);
-            self.text(b": ");
-        }
-    }
-}
-
-fn refusal(refusal: &Refusal) -> Line
+/// The line of a refusal.
+fn refusal_line(refusal: &Refusal) -> Line
     ensures { result ≡ refusal_line refusal.now }
 {
     let mut line = Line::new();
-    line.text(b"melt: word ");
-    line.count(refusal.word);
-    line.text(b": ");
-    line.inner(refusal.inner);
-    line.cause(refusal.cause);
-    line.text(b"\n");
+    line.pieces(&[
+        Piece::Words("melt: word "),
+        count(refusal.word),
+        Piece::Words(": "),
+    ]);
+    line.pieces(&inner_pieces(refusal.inner));
+    line.pieces(&cause_pieces(refusal.cause));
+    line.text("\n");
     line
 }
 
-fn sink(port: Port) -> Line
+/// The line of a port that cannot be written.
+fn sink_line(port: Port) -> Line
     ensures { result ≡ sink_line port }
 {
     let mut line = Line::new();
-    line.text(b"melt: cannot write ");
-    line.text(port_name(port).as_bytes());
-    line.text(b"\n");
+    line.text("melt: cannot write ");
+    line.text(port_text(port));
+    line.text("\n");
     line
 }
 
-fn memory() -> Line
+/// The line of a run that memory was wanting for.
+fn memory_line() -> Line
     ensures { result ≡ memory_line }
 {
     let mut line = Line::new();
-    line.text(b"melt: out of memory\n");
+    line.text("melt: out of memory\n");
     line
 }
 
@@ -286,8 +293,8 @@ pub fn fault_line(status: &Status) -> Line
 {
     match status {
         Status::Done(_) => Line::new(),
-        Status::Refused(refused) => refusal(refused),
-        Status::SinkFault(port, _) => sink(*port),
-        Status::Memory => memory(),
+        Status::Refused(refused) => refusal_line(refused),
+        Status::SinkFault(port, _) => sink_line(*port),
+        Status::Memory => memory_line(),
     }
 }

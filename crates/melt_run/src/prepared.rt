@@ -171,25 +171,6 @@ fn job<H: Host>(alloc: Global, groups: &GroupList, host: &mut H) -> Prepared
     }
 }
 
-/// The cause of a fault of the words themselves.
-fn cause_of(cause: WordCause) -> Cause
-    ensures { result ≡ meaning.cause_of cause }
-{
-    match cause {
-        WordCause::UnknownOption => Cause::UnknownOption,
-        WordCause::Unsupported => Cause::Unsupported,
-        WordCause::MissingArgument => Cause::MissingArgument,
-        WordCause::StrayProperty => Cause::StrayProperty,
-        WordCause::TooMany(limit) => Cause::TooMany { limit },
-    }
-}
-
-fn word_refusal(fault: WordFault) -> Refusal
-    ensures { result ≡ refusal_of fault.place (meaning.cause_of fault.cause) }
-{
-    Refusal::at(fault.place, cause_of(fault.cause))
-}
-
 /// What the words mean.
 fn read<H: Host>(alloc: Global, words: &[String], host: &mut H) -> Prepared
     ensures reads { (files : Files) → Reads result (meaning.words_read (texts words.now) files) }
@@ -201,7 +182,7 @@ fn read<H: Host>(alloc: Global, words: &[String], host: &mut H) -> Prepared
 {
     match groups(alloc, words) {
         Ok(list) => job(alloc, &list, host),
-        Err(Try::Fault(fault)) => Prepared::Refused(word_refusal(fault)),
+        Err(Try::Fault(fault)) => Prepared::Refused(Refusal::from(fault)),
         Err(Try::Memory) => Prepared::Memory,
     }
 }

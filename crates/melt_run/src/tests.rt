@@ -390,8 +390,8 @@ fn plays_to_a_file_of_a_disk(rt: HostRuntime) -> Result<(), Fail> {
         let words = split(alloc, line)?;
         let answer = melt(&(), alloc, words.as_slice(), &mut host, &Free);
         assert_eq!(rt; answer, status, "{line}");
-        assert_eq!(rt; host.output().as_slice(), output);
-        assert_eq!(rt; host.errors().as_slice(), errors.as_bytes());
+        assert_eq!(rt; host.stdout().as_slice(), output);
+        assert_eq!(rt; host.stderr().as_slice(), errors.as_bytes());
         let Some(file) = host.file_of(Port::Video) else {
             return Err(Fail::new("no file was opened"));
         };

@@ -5,7 +5,7 @@ ghost use Rattle.mlt_base.specs.declared.port.Port.TheVariants.{Text};
 ghost use Rattle.mlt_host.specs.Host.{OnlyPort};
 ghost use Rattle.mlt_tree.specs.Reading as meaning;
 ghost use Rattle.melt_run.specs.Prints.{Prints};
-ghost use Rattle.melt_run.specs.Text.{job_of};
+ghost use Rattle.melt_run.specs.Text.{job_view};
 
 use crate::status::{Status, Tally};
 use mlt_base::Port;
@@ -37,7 +37,7 @@ fn names(asked: QueryKind) -> &'static str
 }
 
 fn answer(job: TextJob) -> &'static str
-    ensures { result.now ≡ meaning.job_text (job_of job) }
+    ensures { result.now ≡ meaning.job_text (job_view job) }
 {
     match job {
         TextJob::Version => "melt 1.0.0\n",
@@ -50,7 +50,7 @@ fn answer(job: TextJob) -> &'static str
 /// It answers `Done` where the append was Ok, else `SinkFault`, and nothing else; both with accounts of
 /// nothing. It takes no memory, and waits for nobody.
 pub fn melt_text<H: Host>(job: TextJob, host: &mut H) -> Status
-    ensures prints { Prints (meaning.job_text (job_of job)) result (H.state host.old) (H.state host.new) }
+    ensures prints { Prints (meaning.job_text (job_view job)) result (H.state host.old) (H.state host.new) }
     ensures never_falls { (H.state host.old).faults Text ≤ (H.state host.new).faults Text }
     ensures creates { (H.state host.new).creates Text ≡ (H.state host.old).creates Text }
     ensures rest { OnlyPort Text (H.state host.old) (H.state host.new) }

@@ -8,7 +8,7 @@ ghost use Rattle.std.specs.List.{concat};
 const BLOCK: usize = 12288;
 
 /// Copies the first bytes behind those that are filled.
-fn copy_first(bytes: &mut [u8], filled: usize, more: usize)
+fn copy_front(bytes: &mut [u8], filled: usize, more: usize)
     requires enough { more ≤ filled }
     requires room { filled + more ≤ length bytes.old }
     ensures { bytes.new ≡ take filled bytes.old ++ (take more bytes.old ++ drop (filled + more) bytes.old) }
@@ -30,7 +30,7 @@ pub(crate) fn tile(bytes: &mut [u8], pixel: &[u8])
     let mut filled = pixel.len();
     while filled < bytes.len() {
         let more = filled.min(BLOCK).min(bytes.len() - filled);
-        copy_first(bytes, filled, more);
+        copy_front(bytes, filled, more);
         filled += more;
     }
 }

@@ -7,7 +7,7 @@ use Rattle.mlt_base.specs.Try.{Fails}
 use Rattle.mlt_base.specs.declared.refusal.Try.{Try}
 use Rattle.mlt_base.specs.declared.refusal.Try.TheVariants.{Fault, Memory}
 use Rattle.mlt_base.specs.declared.faults.WordFault.{WordFault}
-use Rattle.mlt_tree.specs.declared.group.TheConstants.{MOST_WORDS}
+use Rattle.mlt_base.specs.declared.limits.TheConstants.{MOST_WORDS}
 use Rattle.mlt_base.specs.Steps.{◌>>=◌}
 use Rattle.mlt_tree.specs.Words.{State, start, step, steps, finish, groups}
 

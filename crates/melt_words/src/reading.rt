@@ -7,8 +7,9 @@ ghost use Rattle.melt_words.specs.View.{last_of, state_of};
 
 use crate::options::{is_option, option_row};
 use crate::property::divided;
+use mlt_base::limits::MOST_WORDS;
 use mlt_base::{Text, Try, WordCause, WordFault};
-use mlt_tree::{Group, GroupKind, GroupList, MOST_WORDS, Prop, PropList};
+use mlt_tree::{Group, GroupKind, GroupList, Prop, PropList};
 use std::alloc::Global;
 use std::mem;
 

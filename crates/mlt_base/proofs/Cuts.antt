@@ -7,7 +7,7 @@ use Rattle.std.proofs.lemmas.Bool.{eqb-true, ne_eqb, eq-eqb, ltb-true, lt-ltb, l
 use Rattle.std.proofs.lemmas.List.{append_assoc, length-append, length_push, take_at, drop_at}
 use Rattle.std.proofs.lemmas.List.Sums.{split_at_first, passes_at_first}
 use Rattle.mlt_base.specs.Reading.{AreDigits}
-use Rattle.mlt_base.specs.Cut.{cut}
+use Rattle.mlt_base.specs.SplitOnce.{split_once}
 
 -- the value of a step that gave one
 pub bind_some : {A B : Type 0} (o : Option A) (f : A → Option B) (y : B) → option_and_then f o ≡ Some y → (x : A) × (o ≡ Some x) × (f x ≡ Some y)
@@ -38,22 +38,22 @@ position_none : (mark : ℕ) (text : List ℕ) → Lacks mark text → position_
 position_none mark [] h = refl
 position_none mark (b ∷ text) h = rw (ne_eqb b mark h.0, position_none mark text h.1) (omega arith)
 
-pub cut_again : (mark : ℕ) (front back : List ℕ) → Lacks mark front → cut mark (front ++ mark ∷ back) ≡ Some (front, back)
-unfolding cut
+pub cut_again : (mark : ℕ) (front back : List ℕ) → Lacks mark front → split_once mark (front ++ mark ∷ back) ≡ Some (front, back)
+unfolding split_once
 cut_again mark front back h =
     let behind : drop (length front + 1) (front ++ mark ∷ back) ≡ back =
     ap (drop (length front + 1)) (sym (append_assoc front (mark ∷ []) back)) ∙ drop_at (front ++ mark ∷ []) back (length front + 1) (length_push front mark) in
     rw (position_at mark front back h, lt-ltb (length front) (length (front ++ mark ∷ back)) (omega (arith, length-append front (mark ∷ back))), take_at front (mark ∷ back) (length front) refl, behind) refl
 
-pub cut_none : (mark : ℕ) (text : List ℕ) → Lacks mark text → cut mark text ≡ None
-unfolding cut
+pub cut_none : (mark : ℕ) (text : List ℕ) → Lacks mark text → split_once mark text ≡ None
+unfolding split_once
 cut_none mark text h = rw (position_none mark text h, le-ltb (length text) (length text) (omega arith)) refl
 
 pub some_is : {A : Type 0} (x y : A) → Some x ≡ Some y → x ≡ y
 some_is x y e = cc
 
-pub cut_takes : (mark : ℕ) (text : List ℕ) (parts : List ℕ × List ℕ) → cut mark text ≡ Some parts → text ≡ parts.0 ++ mark ∷ parts.1
-unfolding cut
+pub cut_takes : (mark : ℕ) (text : List ℕ) (parts : List ℕ × List ℕ) → split_once mark text ≡ Some parts → text ≡ parts.0 ++ mark ∷ parts.1
+unfolding split_once
 cut_takes mark text parts e = go (ltb (position_or_len (λ b. eqb b mark) text) (length text)) refl e
   where
     go : (t : Bool) → ltb (position_or_len (λ b. eqb b mark) text) (length text) ≡ t → cond t (Some (before_first (λ b. eqb b mark) text, after_first (λ b. eqb b mark) text)) None ≡ Some parts → text ≡ parts.0 ++ mark ∷ parts.1

@@ -5,8 +5,8 @@ use Rattle.std.specs.Int.{w64}
 use Rattle.std.proofs.lemmas.Bool.{leb-true, le-leb}
 use Rattle.mlt_base.specs.declared.fault.NumFault.{NumFault}
 use Rattle.mlt_base.specs.Whole.{whole}
-use Rattle.mlt_base.specs.Cut.{cut}
-use Rattle.mlt_base.specs.Geometry.{Place, near, from_low, near_zero, counted, hundredths, offset_from, offset, extent_from, extent, corner_cut, corner, area, area_from, shape, geometry}
+use Rattle.mlt_base.specs.SplitOnce.{split_once}
+use Rattle.mlt_base.specs.Geometry.{Rectangle, near, from_low, near_zero, counted, hundredths, offset_from, offset, extent_from, extent, corner_cut, corner, area, area_from, shape, geometry}
 use Rattle.mlt_base.specs.Grammar.{IsWhole, whole_text, IsOffset, IsExtent, IsCorner, IsArea, IsGeometry}
 use Rattle.mlt_base.proofs.WholeForms.{whole_takes, whole_accepted}
 use Rattle.mlt_base.proofs.Cuts.{Lacks, Lacks-append, Lacks-digits, cut_again, cut_none, cut_takes, some_is, bind_some}
@@ -56,9 +56,9 @@ counted_again low high text n top is least most = rw (near_again high text (pos 
 
 offset_takes : (size : ℕ) (text : List ℕ) (at : ℤ) → offset size text ≡ Some at → IsOffset size text at
 unfolding offset
-offset_takes size text at e = read (cut 37 text) refl e
+offset_takes size text at e = read (split_once 37 text) refl e
   where
-    read : (o : Option (List ℕ × List ℕ)) → cut 37 text ≡ o → offset_from size text o ≡ Some at → IsOffset size text at
+    read : (o : Option (List ℕ × List ℕ)) → split_once 37 text ≡ o → offset_from size text o ≡ Some at → IsOffset size text at
     read None h e = inl (near_takes 16384 text at e)
     read (Some (front, [])) h e =
         let one = bind_some (near_zero 1000 front) _ at e in
@@ -68,9 +68,9 @@ offset_takes size text at e = read (cut 37 text) refl e
 
 extent_takes : (size : ℕ) (text : List ℕ) (long : ℕ) → extent size text ≡ Some long → IsExtent size text long
 unfolding extent
-extent_takes size text long e = read (cut 37 text) refl e
+extent_takes size text long e = read (split_once 37 text) refl e
   where
-    read : (o : Option (List ℕ × List ℕ)) → cut 37 text ≡ o → extent_from size text o ≡ Some long → IsExtent size text long
+    read : (o : Option (List ℕ × List ℕ)) → split_once 37 text ≡ o → extent_from size text o ≡ Some long → IsExtent size text long
     read None h e = inl (counted_takes 1 4096 text long e)
     read (Some (front, [])) h e =
         let one = bind_some (counted 1 1000 front) _ long e in
@@ -106,19 +106,19 @@ offset_again : (size : ℕ) (text : List ℕ) (at : ℤ) → IsOffset size text 
 unfolding offset
 offset_again size text at (inl is) = rw (cut_none 37 text (Lacks-whole 37 text at percent is.0)) (near_again 16384 text at (omega arith) is.0 is.1)
 offset_again size text at (inr (front, n, is, small, spelled, e)) =
-    let halves : cut 37 text ≡ Some (front, []) = ap (cut 37) spelled ∙ cut_again 37 front [] (Lacks-whole 37 front n percent is) in
+    let halves : split_once 37 text ≡ Some (front, []) = ap (split_once 37) spelled ∙ cut_again 37 front [] (Lacks-whole 37 front n percent is) in
     rw (halves, near_again 1000 front n (omega arith) is small) (ap (λ (z : ℤ). Some z) (sym e))
 
 extent_again : (size : ℕ) (text : List ℕ) (long : ℕ) → IsExtent size text long → extent size text ≡ Some long
 unfolding extent
 extent_again size text long (inl is) = rw (cut_none 37 text (Lacks-whole 37 text (pos long) percent is.0)) (counted_again 1 4096 text long (omega arith) is.0 is.1 is.2)
 extent_again size text long (inr (front, n, is, low, high, spelled, e)) =
-    let halves : cut 37 text ≡ Some (front, []) = ap (cut 37) spelled ∙ cut_again 37 front [] (Lacks-whole 37 front (pos n) percent is) in
+    let halves : split_once 37 text ≡ Some (front, []) = ap (split_once 37) spelled ∙ cut_again 37 front [] (Lacks-whole 37 front (pos n) percent is) in
     rw (halves, counted_again 1 1000 front n (omega arith) is low high) (ap (λ (z : ℕ). Some z) (sym e))
 
 -- ---- the whole: what is read is one
 
-corner_cut_takes : (text : List ℕ) (o : Option (List ℕ × List ℕ)) (parts : List ℕ × List ℕ) → cut 47 text ≡ o → corner_cut text o ≡ Some parts → (text ≡ parts.0 ++ 47 ∷ parts.1) ⊎ (text ≡ parts.0 ++ 44 ∷ parts.1)
+corner_cut_takes : (text : List ℕ) (o : Option (List ℕ × List ℕ)) (parts : List ℕ × List ℕ) → split_once 47 text ≡ o → corner_cut text o ≡ Some parts → (text ≡ parts.0 ++ 47 ∷ parts.1) ⊎ (text ≡ parts.0 ++ 44 ∷ parts.1)
 corner_cut_takes text None parts h e = inr (cut_takes 44 text parts e)
 corner_cut_takes text (Some halves) parts h e = inl (cut_takes 47 text parts (h ∙ e))
 
@@ -126,7 +126,7 @@ corner_takes : (width height : ℕ) (text : List ℕ) (at : ℤ × ℤ) → corn
     → (x : List ℕ) × (y : List ℕ) × IsOffset width x at.0 × IsOffset height y at.1 × ((text ≡ x ++ 47 ∷ y) ⊎ (text ≡ x ++ 44 ∷ y))
 unfolding corner
 corner_takes width height text at e =
-    let one = bind_some (corner_cut text (cut 47 text)) _ at e in
+    let one = bind_some (corner_cut text (split_once 47 text)) _ at e in
     let two = bind_some (offset width one.0.0) _ at one.2 in
     let three = bind_some (offset height one.0.1) _ at two.2 in
     let is : (two.0, three.0) ≡ at = some_is (two.0, three.0) at three.2 in (
@@ -134,14 +134,14 @@ corner_takes width height text at e =
       one.0.1,
       subst (IsOffset width one.0.0) (ap (λ (p : ℤ × ℤ). p.0) is) (offset_takes width one.0.0 two.0 two.1),
       subst (IsOffset height one.0.1) (ap (λ (p : ℤ × ℤ). p.1) is) (offset_takes height one.0.1 three.0 three.1),
-      corner_cut_takes text (cut 47 text) one.0 refl one.1,
+      corner_cut_takes text (split_once 47 text) one.0 refl one.1,
     )
 
 area_takes : (width height : ℕ) (text : List ℕ) (size : ℕ × ℕ) → area width height text ≡ Some size
     → (w : List ℕ) × (h : List ℕ) × IsExtent width w size.0 × IsExtent height h size.1 × (text ≡ w ++ 120 ∷ h)
 unfolding area
 area_takes width height text size e =
-    let one = bind_some (cut 120 text) _ size e in
+    let one = bind_some (split_once 120 text) _ size e in
     let two = bind_some (extent width one.0.0) _ size one.2 in
     let three = bind_some (extent height one.0.1) _ size two.2 in
     let is : (two.0, three.0) ≡ size = some_is (two.0, three.0) size three.2 in (
@@ -160,9 +160,9 @@ IsShape width height text s =
 
 shape_takes : (width height : ℕ) (text : List ℕ) (s : ℕ × ℕ × ℕ) → shape width height text ≡ Some s → IsShape width height text s
 unfolding shape
-shape_takes width height text s e = read (cut 58 text) refl e
+shape_takes width height text s e = read (split_once 58 text) refl e
   where
-    read : (o : Option (List ℕ × List ℕ)) → cut 58 text ≡ o → area_from width height text o ≡ Some s → IsShape width height text s
+    read : (o : Option (List ℕ × List ℕ)) → split_once 58 text ≡ o → area_from width height text o ≡ Some s → IsShape width height text s
     read None h e =
         let one = bind_some (area width height text) _ s e in
         subst (IsShape width height text) (some_is (one.0.0, one.0.1, 100) s one.2) (text, area_takes width height text one.0 one.1, inl (refl, refl))
@@ -173,15 +173,15 @@ shape_takes width height text s e = read (cut 58 text) refl e
         subst (IsShape width height text) (some_is (one.0.0, one.0.1, two.0) s two.2)
         (halves.0, area_takes width height halves.0 one.0 one.1, inr (halves.1, is.0, is.2, cut_takes 58 text halves h))
 
-pub geometry_takes : (width height : ℕ) (text : List ℕ) (p : Place) → geometry width height text ≡ Some p → IsGeometry width height text p
+pub geometry_takes : (width height : ℕ) (text : List ℕ) (p : Rectangle) → geometry width height text ≡ Some p → IsGeometry width height text p
 unfolding geometry
 geometry_takes width height text p e =
-    let one = bind_some (cut 58 text) _ p e in
+    let one = bind_some (split_once 58 text) _ p e in
     let two = bind_some (corner width height one.0.0) _ p one.2 in
     let three = bind_some (shape width height one.0.1) _ p two.2 in
     let at = two.0 in
     let s = three.0 in
-    let place : Place = record { x = at.0; y = at.1; width = s.0; height = s.1; opacity = s.2 } in
+    let place : Rectangle = record { x = at.0; y = at.1; width = s.0; height = s.1; opacity = s.2 } in
     subst (IsGeometry width height text) (some_is place p three.2)
     (whole one.0 at s (cut_takes 58 text one.0 one.1) (corner_takes width height one.0.0 at two.1) (shape_takes width height one.0.1 s three.1))
   where
@@ -206,16 +206,16 @@ colon = ((λ e. omega (arith, e)), inr (omega arith))
 letter_x : IsMark 120
 letter_x = ((λ e. omega (arith, e)), inr (omega arith))
 
-corner_parts : (width height : ℕ) (text x y : List ℕ) (p : Place) → IsOffset width x p.x → IsOffset height y p.y → ((text ≡ x ++ 47 ∷ y) ⊎ (text ≡ x ++ 44 ∷ y)) → corner_cut text (cut 47 text) ≡ Some (x, y)
+corner_parts : (width height : ℕ) (text x y : List ℕ) (p : Rectangle) → IsOffset width x p.x → IsOffset height y p.y → ((text ≡ x ++ 47 ∷ y) ⊎ (text ≡ x ++ 44 ∷ y)) → corner_cut text (split_once 47 text) ≡ Some (x, y)
 corner_parts width height text x y p hx hy (inl e) =
-    ap (corner_cut text) (ap (cut 47) e ∙ cut_again 47 x y (Lacks-offset 47 width x p.x slash (λ e. omega (arith, e)) hx))
+    ap (corner_cut text) (ap (split_once 47) e ∙ cut_again 47 x y (Lacks-offset 47 width x p.x slash (λ e. omega (arith, e)) hx))
 corner_parts width height text x y p hx hy (inr e) =
     let front = Lacks-offset 47 width x p.x slash (λ e. omega (arith, e)) hx in
     let back = Lacks-offset 47 height y p.y slash (λ e. omega (arith, e)) hy in
-    let none : cut 47 text ≡ None = ap (cut 47) e ∙ cut_none 47 (x ++ 44 ∷ y) (Lacks-append 47 x (44 ∷ y) front ((λ e. omega (arith, e)), back)) in
-    ap (corner_cut text) none ∙ (ap (cut 44) e ∙ cut_again 44 x y (Lacks-offset 44 width x p.x comma (λ e. omega (arith, e)) hx))
+    let none : split_once 47 text ≡ None = ap (split_once 47) e ∙ cut_none 47 (x ++ 44 ∷ y) (Lacks-append 47 x (44 ∷ y) front ((λ e. omega (arith, e)), back)) in
+    ap (corner_cut text) none ∙ (ap (split_once 44) e ∙ cut_again 44 x y (Lacks-offset 44 width x p.x comma (λ e. omega (arith, e)) hx))
 
-corner_again : (width height : ℕ) (text : List ℕ) (p : Place) → IsCorner width height text p → (corner width height text ≡ Some (p.x, p.y)) × Lacks 58 text
+corner_again : (width height : ℕ) (text : List ℕ) (p : Rectangle) → IsCorner width height text p → (corner width height text ≡ Some (p.x, p.y)) × Lacks 58 text
 unfolding corner
 corner_again width height text p (x, y, hx, hy, spelled) =
     (rw (corner_parts width height text x y p hx hy spelled, offset_again width x p.x hx, offset_again height y p.y hy) refl, lacks spelled)
@@ -230,25 +230,25 @@ corner_again width height text p (x, y, hx, hy, spelled) =
     lacks (inl e) = subst (Lacks 58) (sym e) (Lacks-append 58 x (47 ∷ y) front ((λ e. omega (arith, e)), back))
     lacks (inr e) = subst (Lacks 58) (sym e) (Lacks-append 58 x (44 ∷ y) front ((λ e. omega (arith, e)), back))
 
-area_again : (width height : ℕ) (text : List ℕ) (p : Place) → IsArea width height text p → (area width height text ≡ Some (p.width, p.height)) × Lacks 58 text
+area_again : (width height : ℕ) (text : List ℕ) (p : Rectangle) → IsArea width height text p → (area width height text ≡ Some (p.width, p.height)) × Lacks 58 text
 unfolding area
 area_again width height text p (w, h, hw, hh, e) =
-    let parts : cut 120 text ≡ Some (w, h) = ap (cut 120) e ∙ cut_again 120 w h (Lacks-extent 120 width w p.width letter_x (λ e. omega (arith, e)) hw) in
+    let parts : split_once 120 text ≡ Some (w, h) = ap (split_once 120) e ∙ cut_again 120 w h (Lacks-extent 120 width w p.width letter_x (λ e. omega (arith, e)) hw) in
     let front = Lacks-extent 58 width w p.width colon (λ e. omega (arith, e)) hw in
     let back = Lacks-extent 58 height h p.height colon (λ e. omega (arith, e)) hh in (
       rw (parts, extent_again width w p.width hw, extent_again height h p.height hh) refl,
       subst (Lacks 58) (sym e) (Lacks-append 58 w (120 ∷ h) front ((λ e. omega (arith, e)), back)),
     )
 
-pub geometry_again : (width height : ℕ) (text : List ℕ) (p : Place) → IsGeometry width height text p → geometry width height text ≡ Some p
+pub geometry_again : (width height : ℕ) (text : List ℕ) (p : Rectangle) → IsGeometry width height text p → geometry width height text ≡ Some p
 unfolding geometry shape
 geometry_again width height text p (left, right, hl, hr, inl (e, most)) =
     let l = corner_again width height left p hl in
     let r = area_again width height right p hr in
-    let halves : cut 58 text ≡ Some (left, right) = ap (cut 58) e ∙ cut_again 58 left right l.1 in
+    let halves : split_once 58 text ≡ Some (left, right) = ap (split_once 58) e ∙ cut_again 58 left right l.1 in
     rw (halves, l.0, cut_none 58 right r.1, r.0, ← most) refl
 geometry_again width height text p (left, right, hl, hr, inr (opacity, is, most, e)) =
     let l = corner_again width height left p hl in
     let r = area_again width height right p hr in
-    let halves : cut 58 text ≡ Some (left, right ++ 58 ∷ opacity) = ap (cut 58) e ∙ cut_again 58 left (right ++ 58 ∷ opacity) l.1 in
+    let halves : split_once 58 text ≡ Some (left, right ++ 58 ∷ opacity) = ap (split_once 58) e ∙ cut_again 58 left (right ++ 58 ∷ opacity) l.1 in
     rw (halves, l.0, cut_again 58 right opacity r.1, r.0, counted_again 0 100 opacity p.opacity (omega arith) is (omega arith) most) refl

@@ -8,10 +8,10 @@ use Rattle.std.proofs.lemmas.Bool.{and_parts, or_right, both_ways, not-true, eqb
 use Rattle.mlt_base.specs.declared.table.NamedProfile.{NamedProfile}
 use Rattle.mlt_base.specs.declared.table.TheConstants.{PROFILES}
 use Rattle.mlt_base.specs.Reading.{AreDigits, IsNumeral, digit_count, number}
-use Rattle.mlt_base.specs.Cut.{cut}
+use Rattle.mlt_base.specs.SplitOnce.{split_once}
 use Rattle.mlt_base.specs.Name.{name_of}
-use Rattle.mlt_base.specs.Profile.{Measures, is_size, is_rate, within, field, pair, spelled, is_named, profile_from, profile}
-use Rattle.mlt_base.specs.Grammar.{measures_of, IsProfile, IsWithin, IsNamed}
+use Rattle.mlt_base.specs.Profile.{Measures, is_size, is_rate, within, field, pair, spelled, is_named, profile_from, profile, row_measures}
+use Rattle.mlt_base.specs.Grammar.{IsProfile, IsWithin, IsNamed}
 use Rattle.mlt_base.proofs.Forms.{digit_count-all, AreDigits-all}
 use Rattle.mlt_base.proofs.Cuts.{Lacks-append, Lacks-digits, cut_again, cut_takes, some_is, bind_some}
 
@@ -30,7 +30,7 @@ pair_takes : (mark limit : ℕ) (text : List ℕ) (p : ℕ × ℕ) → pair mark
     → (a : List ℕ) × (b : List ℕ) × AreDigits a × AreDigits b × (text ≡ a ++ mark ∷ b) × (number a ≡ p.0) × (number b ≡ p.1)
 unfolding pair
 pair_takes mark limit text p e =
-    let one = bind_some (cut mark text) _ p e in
+    let one = bind_some (split_once mark text) _ p e in
     let two = bind_some (field limit one.0.0) _ p one.2 in
     let three = bind_some (field limit one.0.1) _ p two.2 in
     let a = field_takes limit one.0.0 two.0 two.1 in
@@ -72,7 +72,7 @@ some_digits (b ∷ digits) h some = (omega arith, h)
 pub spelled_takes : (text : List ℕ) (m : Measures) → spelled text ≡ Some m → IsProfile text m × IsWithin m
 unfolding spelled
 spelled_takes text m e =
-    let one = bind_some (cut 64 text) _ m e in
+    let one = bind_some (split_once 64 text) _ m e in
     let two = bind_some (pair 120 4096 one.0.0) _ m one.2 in
     let three = bind_some (pair 47 100000 one.0.1) _ m two.2 in
     let all = within_takes (record { width = two.0.0; height = two.0.1; num = three.0.0; den = three.0.1 }) m three.2 in
@@ -160,13 +160,13 @@ profile_from_takes text m None h e = inr (spelled_takes text m e)
 profile_from_takes text m (Some row) h e = inl (named (found (is_named text) PROFILES row h))
   where
     named : Any (λ y. (is_named text y ≡ true) × (y ≡ row)) PROFILES → IsNamed text m
-    named (k, z, lt, at, (passes, is)) = (k, z, lt, at, (sym (bytes_eq-true (name_of z.name) text passes), sym (within_takes (measures_of row) m e).1 ∙ ap measures_of (sym is)))
+    named (k, z, lt, at, (passes, is)) = (k, z, lt, at, (sym (bytes_eq-true (name_of z.name) text passes), sym (within_takes (row_measures row) m e).1 ∙ ap row_measures (sym is)))
 
 pub profile_takes : (text : List ℕ) (m : Measures) → profile text ≡ Some m → IsNamed text m ⊎ (IsProfile text m × IsWithin m)
 unfolding profile
 profile_takes text m e = profile_from_takes text m (find (is_named text) PROFILES) refl e
 
-pub profile_named : All (λ row. profile (name_of row.name) ≡ Some (measures_of row)) PROFILES
+pub profile_named : All (λ row. profile (name_of row.name) ≡ Some (row_measures row)) PROFILES
 unfolding profile within
 profile_named zero d h = refl
 profile_named (suc zero) d h = refl

@@ -2,6 +2,7 @@
 use Rattle.std.specs.Prelude.{ℕ, ◌+◌, ◌-◌, ◌*◌, ◌&&◌, nat_le, if◌then◌else◌, List, [], ◌∷◌, drop, Option, None, Some, codes, nat_eq}
 use Rattle.std.specs.List.{starts_with}
 use Rattle.std.specs.Str.{bytes_eq}
+use Rattle.mlt_base.specs.Options.{◌>>=◌}
 
 -- a colour with straight alpha, each channel 0 to 255
 pub record Pixel : Type 0 where
@@ -13,12 +14,6 @@ pub record Pixel : Type 0 where
 -- a colour that hides what lies under it
 abbrev pub opaque : ℕ → ℕ → ℕ → Pixel
 opaque r g b = record { r = r; g = g; b = b; a = 255 }
-
--- what the first gives goes on to the second; nothing where either gives nothing
-infixl 10 ◌>>=◌
-abbrev pub ◌>>=◌ : {A B : Type 0} → Option A → (A → Option B) → Option B
-None >>= f = None
-(Some x) >>= f = f x
 
 -- the value of a hexadecimal digit, in either case
 abbrev pub hex : ℕ → Option ℕ

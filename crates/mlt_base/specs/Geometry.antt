@@ -2,10 +2,11 @@
 use Rattle.std.specs.Prelude.{ℕ, ◌+◌, ◌*◌, ◌/◌, min, max, ℤ, pos, negsuc, neg_ℤ, unsigned_abs, List, [], ◌∷◌, Option, Some, None, Result, Ok, Err, nat_le, if◌then◌else◌}
 use Rattle.mlt_base.specs.declared.fault.NumFault.{NumFault}
 use Rattle.mlt_base.specs.Whole.{whole}
-use Rattle.mlt_base.specs.Cut.{◌>>=◌, cut}
+use Rattle.mlt_base.specs.Options.{◌>>=◌}
+use Rattle.mlt_base.specs.SplitOnce.{split_once}
 
 -- where a picture goes: its left upper corner, its size in pixels, and its opacity in hundredths
-pub record Place : Type 0 where
+pub record Rectangle : Type 0 where
   pub x : ℤ
   pub y : ℤ
   pub width : ℕ
@@ -45,7 +46,7 @@ offset_from size text (Some (front, [])) = near_zero 1000 front >>= λ n. Some (
 offset_from size text (Some (front, b ∷ rest)) = None
 
 unfoldable pub offset : ℕ → List ℕ → Option ℤ
-offset size text = offset_from size text (cut 37 text)
+offset size text = offset_from size text (split_once 37 text)
 
 -- how far it goes along a size
 abbrev pub extent_from : ℕ → List ℕ → Option (List ℕ × List ℕ) → Option ℕ
@@ -54,18 +55,18 @@ extent_from size text (Some (front, [])) = counted 1 1000 front >>= λ n. Some (
 extent_from size text (Some (front, b ∷ rest)) = None
 
 unfoldable pub extent : ℕ → List ℕ → Option ℕ
-extent size text = extent_from size text (cut 37 text)
+extent size text = extent_from size text (split_once 37 text)
 
 -- ---- the whole; 47 is `/`, 44 is `,`, 58 is `:` and 120 is `x`
 
 -- X and Y, between which `,` may stand for `/`
 abbrev pub corner_cut : List ℕ → Option (List ℕ × List ℕ) → Option (List ℕ × List ℕ)
 corner_cut text (Some parts) = Some parts
-corner_cut text None = cut 44 text
+corner_cut text None = split_once 44 text
 
 unfoldable pub corner : ℕ → ℕ → List ℕ → Option (ℤ × ℤ)
 corner width height text = do
-  parts ← corner_cut text (cut 47 text)
+  parts ← corner_cut text (split_once 47 text)
   x ← offset width parts.0
   y ← offset height parts.1
   Some (x, y)
@@ -73,7 +74,7 @@ corner width height text = do
 -- W and H
 unfoldable pub area : ℕ → ℕ → List ℕ → Option (ℕ × ℕ)
 area width height text = do
-  parts ← cut 120 text
+  parts ← split_once 120 text
   w ← extent width parts.0
   h ← extent height parts.1
   Some (w, h)
@@ -87,12 +88,12 @@ area_from width height text (Some (front, rest)) = do
   Some (size.0, size.1, opacity)
 
 unfoldable pub shape : ℕ → ℕ → List ℕ → Option (ℕ × ℕ × ℕ)
-shape width height text = area_from width height text (cut 58 text)
+shape width height text = area_from width height text (split_once 58 text)
 
 -- a geometry in a profile of a width and a height
-unfoldable pub geometry : ℕ → ℕ → List ℕ → Option Place
+unfoldable pub geometry : ℕ → ℕ → List ℕ → Option Rectangle
 geometry width height text = do
-  halves ← cut 58 text
+  halves ← split_once 58 text
   first ← corner width height halves.0
   second ← shape width height halves.1
   Some (record { x = first.0; y = first.1; width = second.0; height = second.1; opacity = second.2 })

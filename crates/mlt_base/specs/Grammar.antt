@@ -4,8 +4,8 @@ use Rattle.std.specs.List.{Any}
 use Rattle.mlt_base.specs.declared.table.NamedProfile.{NamedProfile}
 use Rattle.mlt_base.specs.declared.table.TheConstants.{PROFILES}
 use Rattle.mlt_base.specs.Name.{name_of}
-use Rattle.mlt_base.specs.Profile.{Measures}
-use Rattle.mlt_base.specs.Geometry.{Place, hundredths}
+use Rattle.mlt_base.specs.Profile.{Measures, row_measures}
+use Rattle.mlt_base.specs.Geometry.{Rectangle, hundredths}
 use Rattle.mlt_base.specs.declared.animation.Key.{Key}
 use Rattle.mlt_base.specs.Animation.{constant}
 use Rattle.mlt_base.specs.Reading.{AreDigits, IsNumeral, number}
@@ -55,9 +55,6 @@ IsTime text (Counted hours minutes seconds frames) =
 
 -- ---- profiles
 
-abbrev pub measures_of : NamedProfile → Measures
-measures_of row = record { width = row.width; height = row.height; num = row.num; den = row.den }
-
 -- `WxH@num/den`
 abbrev pub profile_text : List ℕ → List ℕ → List ℕ → List ℕ → List ℕ
 profile_text width height num den = (width ++ 120 ∷ height) ++ 64 ∷ (num ++ 47 ∷ den)
@@ -76,7 +73,7 @@ IsWithin m = (1 ≤ m.width) × (m.width ≤ 4096) × (1 ≤ m.height) × (m.hei
 
 -- the text is a name of the table, which has these measures
 abbrev pub IsNamed : List ℕ → Measures → Type 0
-IsNamed text m = Any (λ row. (text ≡ name_of row.name) × (m ≡ measures_of row)) PROFILES
+IsNamed text m = Any (λ row. (text ≡ name_of row.name) × (m ≡ row_measures row)) PROFILES
 
 -- ---- geometries
 
@@ -92,16 +89,16 @@ IsExtent size text long =
     ⊎ ((front : List ℕ) × (n : ℕ) × IsWhole front (pos n) × (1 ≤ n) × (n ≤ 1000) × (text ≡ front ++ 37 ∷ []) × (long ≡ max 1 (min 4096 (n * size / 100))))
 
 -- `X/Y` or `X,Y`
-abbrev pub IsCorner : ℕ → ℕ → List ℕ → Place → Type 0
+abbrev pub IsCorner : ℕ → ℕ → List ℕ → Rectangle → Type 0
 IsCorner width height text p =
     (x : List ℕ) × (y : List ℕ) × IsOffset width x p.x × IsOffset height y p.y × ((text ≡ x ++ 47 ∷ y) ⊎ (text ≡ x ++ 44 ∷ y))
 
 -- `WxH`
-abbrev pub IsArea : ℕ → ℕ → List ℕ → Place → Type 0
+abbrev pub IsArea : ℕ → ℕ → List ℕ → Rectangle → Type 0
 IsArea width height text p = (w : List ℕ) × (h : List ℕ) × IsExtent width w p.width × IsExtent height h p.height × (text ≡ w ++ 120 ∷ h)
 
 -- `X/Y:WxH` or `X/Y:WxH:O`
-abbrev pub IsGeometry : ℕ → ℕ → List ℕ → Place → Type 0
+abbrev pub IsGeometry : ℕ → ℕ → List ℕ → Rectangle → Type 0
 IsGeometry width height text p =
     (corner : List ℕ) × (area : List ℕ) × IsCorner width height corner p × IsArea width height area p
     × (((text ≡ corner ++ 58 ∷ area) × (p.opacity ≡ 100))

@@ -1,7 +1,7 @@
 pub mod Colour
 pub mod Try
 pub mod Reading
-pub mod Cut
+pub mod SplitOnce
 pub mod Whole
 pub mod Decimal
 pub mod Time
@@ -10,6 +10,7 @@ pub mod Animation
 pub mod Geometry
 pub mod GeometryView
 pub mod Name
+pub mod Options
 pub mod Profile
 pub mod ProfileView
 pub mod Grammar

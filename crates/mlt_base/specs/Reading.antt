@@ -4,11 +4,6 @@ use Rattle.std.specs.Char.{is_ascii_digit}
 use Rattle.mlt_base.specs.declared.fault.NumFault.{NumFault}
 use Rattle.mlt_base.specs.declared.fault.NumFault.TheVariants.{BadDigit, TooLarge}
 
--- what a reader returned, seen by view, is what reading gives
-abbrev pub Gives : {X Y : Type 0} → (X → Y) → Result X NumFault → Result Y NumFault → Type 0
-Gives view (Ok x) read = read ≡ Ok (view x)
-Gives view (Err e) read = read ≡ Err e
-
 -- a place, as a fault can tell it
 unfoldable pub held : ℕ → ℕ
 held place = min place (2 ^ 32 - 1)

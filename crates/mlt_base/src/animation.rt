@@ -2,7 +2,8 @@
 
 ghost use Rattle.std.specs.Prelude.{◌≡◌, ℕ, ◌+◌, ◌^◌, ◌-◌, ◌*◌, ◌/◌, ◌<◌, ◌≤◌, length, Some, None, IfOk};
 ghost use Rattle.std.specs.List.{before_first, after_first, slice_split};
-ghost use Rattle.mlt_base.specs.Reading.{Gives, number, below};
+ghost use Rattle.mlt_base.specs.Reading.{number, below};
+ghost use Rattle.mlt_base.specs.Try.{Gives};
 ghost use Rattle.mlt_base.specs.Try.{TryGives};
 ghost use Rattle.mlt_base.specs.Animation.{between, value_from, value_at, Rises, key_mark, in_order, key_at, keys_of, is_semicolon, animation, first_key};
 

@@ -1,7 +1,8 @@
 //! Decimal numbers, as fractions of 65536.
 
 ghost use Rattle.std.specs.Prelude.{◌≡◌, ℕ, ◌+◌, ◌^◌, ◌-◌, ◌*◌, ◌/◌, ◌<◌, ◌≤◌, length};
-ghost use Rattle.mlt_base.specs.Reading.{Gives, number, below};
+ghost use Rattle.mlt_base.specs.Reading.{number, below};
+ghost use Rattle.mlt_base.specs.Try.{Gives};
 ghost use Rattle.mlt_base.specs.Decimal.{fraction_at, point_at, decimal_parts, decimal_value, decimal};
 
 use crate::fault::NumFault;

@@ -2,11 +2,11 @@
 
 ghost use Rattle.std.specs.Prelude.{◌≡◌, ℕ, ◌≤◌, ℤ, Option, IfSome, unsigned_abs};
 ghost use Rattle.std.specs.Option.{option_map};
-ghost use Rattle.mlt_base.specs.Cut.{cut};
+ghost use Rattle.mlt_base.specs.SplitOnce.{split_once};
 ghost use Rattle.mlt_base.specs.Geometry.{near_zero, counted, hundredths, offset_from, offset, extent_from, extent, corner_cut, corner, area, area_from, shape, geometry};
 
 use crate::profile::Profile;
-use crate::reading::cut;
+use crate::reading::split_once;
 use crate::whole::whole_of;
 
 /// Where a picture goes in a frame: its left upper corner and its size, in pixels, and its opacity in
@@ -77,7 +77,7 @@ fn offset(size: u32, text: &[u8]) -> Option<i32>
     ensures value { result ≡ offset size text.now }
     ensures near { IfSome result (λ n. unsigned_abs n ≤ 40960) }
 {
-    match cut(b'%', text) {
+    match split_once(b'%', text) {
         None => near_zero(16384, text),
         Some((front, [])) => Some(hundredths(size, near_zero(1000, front)?)),
         Some(_) => None,
@@ -92,7 +92,7 @@ fn extent(size: u32, text: &[u8]) -> Option<u32>
     ensures from { IfSome result (λ n. 1 ≤ n) }
     ensures to { IfSome result (λ n. n ≤ 4096) }
 {
-    match cut(b'%', text) {
+    match split_once(b'%', text) {
         None => counted(1, 4096, text),
         Some((front, [])) => Some((counted(1, 1000, front)? * size / 100).min(4096).max(1)),
         Some(_) => None,
@@ -101,11 +101,11 @@ fn extent(size: u32, text: &[u8]) -> Option<u32>
 
 /// Two texts around a `/`, or around a `,` where there is no `/`.
 fn corner_cut(text: &[u8]) -> Option<(&[u8], &[u8])>
-    ensures { option_map (λ x. (x.0.now, x.1.now)) result ≡ corner_cut text.now (cut 47 text.now) }
+    ensures { option_map (λ x. (x.0.now, x.1.now)) result ≡ corner_cut text.now (split_once 47 text.now) }
 {
-    match cut(b'/', text) {
+    match split_once(b'/', text) {
         Some(parts) => Some(parts),
-        None => cut(b',', text),
+        None => split_once(b',', text),
     }
 }
 
@@ -131,7 +131,7 @@ fn area(width: u32, height: u32, text: &[u8]) -> Option<(u32, u32)>
     ensures from { IfSome result (λ n. (1 ≤ n.0) × (1 ≤ n.1)) }
     ensures to { IfSome result (λ n. (n.0 ≤ 4096) × (n.1 ≤ 4096)) }
 {
-    let (w, h) = cut(b'x', text)?;
+    let (w, h) = split_once(b'x', text)?;
     Some((extent(width, w)?, extent(height, h)?))
 }
 
@@ -144,7 +144,7 @@ fn shape(width: u32, height: u32, text: &[u8]) -> Option<(u32, u32, u32)>
     ensures from { IfSome result (λ n. (1 ≤ n.0) × (1 ≤ n.1)) }
     ensures to { IfSome result (λ n. (n.0 ≤ 4096) × (n.1 ≤ 4096) × (n.2 ≤ 100)) }
 {
-    match cut(b':', text) {
+    match split_once(b':', text) {
         None => {
             let (w, h) = area(width, height, text)?;
             Some((w, h, 100))
@@ -157,7 +157,7 @@ fn shape(width: u32, height: u32, text: &[u8]) -> Option<(u32, u32, u32)>
 }
 
 impl Geometry {
-    ghost use Rattle.mlt_base.specs.GeometryView.{place_of};
+    ghost use Rattle.mlt_base.specs.GeometryView.{rectangle_of};
 
     /// Reads a geometry, `X/Y:WxH` or `X/Y:WxH:O`, in a profile; `,` may stand for `/`.
     ///
@@ -167,9 +167,9 @@ impl Geometry {
     /// comes where the text has no such form or a number is out of its range.
     #[tactic(auto, unfolding(crate::specs::Geometry::geometry))]
     pub fn read(text: &str, profile: &Profile) -> Option<Geometry>
-        ensures { option_map place_of result ≡ geometry profile.now.width profile.now.height text.now }
+        ensures { option_map rectangle_of result ≡ geometry profile.now.width profile.now.height text.now }
     {
-        let (first, second) = cut(b':', text.as_bytes())?;
+        let (first, second) = split_once(b':', text.as_bytes())?;
         let (x, y) = corner(profile.width, profile.height, first)?;
         let (width, height, opacity) = shape(profile.width, profile.height, second)?;
         Some(Geometry {

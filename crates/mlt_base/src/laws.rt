@@ -14,9 +14,9 @@ ghost use Rattle.mlt_base.specs.declared.animation.Key.{Key};
 ghost use Rattle.mlt_base.specs.Animation.{Rises, between, value_at, animation};
 ghost use Rattle.mlt_base.specs.declared.table.TheConstants.{PROFILES};
 ghost use Rattle.mlt_base.specs.Name.{name_of};
-ghost use Rattle.mlt_base.specs.Profile.{Measures, profile};
-ghost use Rattle.mlt_base.specs.Geometry.{Place, geometry};
-ghost use Rattle.mlt_base.specs.Grammar.{IsWhole, IsDecimal, IsTime, measures_of, IsNamed, IsProfile, IsWithin, IsGeometry, IsAnimation, AreHeld};
+ghost use Rattle.mlt_base.specs.Profile.{Measures, row_measures, profile};
+ghost use Rattle.mlt_base.specs.Geometry.{Rectangle, geometry};
+ghost use Rattle.mlt_base.specs.Grammar.{IsWhole, IsDecimal, IsTime, IsNamed, IsProfile, IsWithin, IsGeometry, IsAnimation, AreHeld};
 
 /// Exactly the whole numbers that fit are read, each as itself; the others are too large.
 pub fn whole_numbers()
@@ -44,15 +44,15 @@ pub fn times()
 /// Exactly the names of the table and the spelled profiles within the limits are read, each as its
 /// measures.
 pub fn profiles()
-    ensures named { All (λ row. profile (name_of row.name) ≡ Some (measures_of row)) PROFILES }
+    ensures named { All (λ row. profile (name_of row.name) ≡ Some (row_measures row)) PROFILES }
     ensures spelled { (text : List ℕ) (m : Measures) → IsProfile text m → IsWithin m → profile text ≡ Some m }
     ensures only { (text : List ℕ) (m : Measures) → profile text ≡ Some m → IsNamed text m ⊎ (IsProfile text m × IsWithin m) }
 {}
 
 /// Exactly the geometries are read, each as its place in a profile of this width and height.
 pub fn geometries()
-    ensures accepted { (width height : ℕ) (text : List ℕ) (p : Place) → IsGeometry width height text p → geometry width height text ≡ Some p }
-    ensures only { (width height : ℕ) (text : List ℕ) (p : Place) → geometry width height text ≡ Some p → IsGeometry width height text p }
+    ensures accepted { (width height : ℕ) (text : List ℕ) (p : Rectangle) → IsGeometry width height text p → geometry width height text ≡ Some p }
+    ensures only { (width height : ℕ) (text : List ℕ) (p : Rectangle) → geometry width height text ≡ Some p → IsGeometry width height text p }
 {}
 
 /// Exactly the animations are read whose keys rise and whose values are below 65536, each as its keys.

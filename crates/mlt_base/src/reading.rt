@@ -3,8 +3,9 @@
 ghost use Rattle.std.specs.Prelude.{◌≡◌, ℕ, ◌+◌, ◌^◌, ◌-◌, ◌<◌, ◌≤◌, ◌==◌, length, min, IfOk};
 ghost use Rattle.std.specs.List.{position_or_len};
 ghost use Rattle.std.specs.Option.{option_map};
-ghost use Rattle.mlt_base.specs.Cut.{cut};
-ghost use Rattle.mlt_base.specs.Reading.{Gives, held, digit_count, number, digits_at, mark_at, end_at};
+ghost use Rattle.mlt_base.specs.SplitOnce.{split_once};
+ghost use Rattle.mlt_base.specs.Reading.{held, digit_count, number, digits_at, mark_at, end_at};
+ghost use Rattle.mlt_base.specs.Try.{Gives};
 
 use crate::fault::NumFault;
 
@@ -47,9 +48,9 @@ pub(crate) fn length_before(mark: u8, bytes: &[u8]) -> usize
 }
 
 /// What stands before the first mark, and what stands behind it.
-#[tactic(auto, unfolding(crate::specs::Cut::cut))]
-pub(crate) fn cut(mark: u8, bytes: &[u8]) -> Option<(&[u8], &[u8])>
-    ensures { option_map (λ x. (x.0.now, x.1.now)) result ≡ cut mark bytes.now }
+#[tactic(auto, unfolding(crate::specs::SplitOnce::split_once))]
+pub(crate) fn split_once(mark: u8, bytes: &[u8]) -> Option<(&[u8], &[u8])>
+    ensures { option_map (λ x. (x.0.now, x.1.now)) result ≡ split_once mark bytes.now }
 {
     let length = length_before(mark, bytes);
     if length < bytes.len() {

@@ -5,8 +5,9 @@ ghost use Rattle.std.specs.Option.{option_map};
 ghost use Rattle.mlt_base.specs.Profile.{within, field, pair, spelled, profile_from, profile};
 ghost use Rattle.mlt_base.specs.ProfileView.{measures_of};
 
+use crate::limits::{MOST_OF_RATE, MOST_PIXELS, MOST_RATE};
 use crate::profile::{Profile, Rate};
-use crate::reading::{cut, digit_count, number};
+use crate::reading::{split_once, digit_count, number};
 use crate::table::{NamedProfile, PROFILES, row_named};
 
 /// The profile of these numbers, where they are within the limits.
@@ -14,8 +15,8 @@ use crate::table::{NamedProfile, PROFILES, row_named};
 fn within(width: u32, height: u32, num: u32, den: u32) -> Option<Profile>
     ensures { option_map measures_of result ≡ within (record { width = width; height = height; num = num; den = den }) }
 {
-    let has_size = 1 <= width && width <= 4096 && 1 <= height && height <= 4096;
-    if has_size && 1 <= den && num <= 100000 && den <= num && num <= 1000 * den {
+    let has_size = 1 <= width && width <= MOST_PIXELS && 1 <= height && height <= MOST_PIXELS;
+    if has_size && 1 <= den && num <= MOST_OF_RATE && den <= num && num <= MOST_RATE * den {
         Some(Profile {
             width,
             height,
@@ -44,7 +45,7 @@ fn field(limit: u32, text: &[u8]) -> Option<u32>
 fn pair(mark: u8, limit: u32, text: &[u8]) -> Option<(u32, u32)>
     ensures { result ≡ pair mark limit text.now }
 {
-    let (first, second) = cut(mark, text)?;
+    let (first, second) = split_once(mark, text)?;
     Some((field(limit, first)?, field(limit, second)?))
 }
 
@@ -53,9 +54,9 @@ fn pair(mark: u8, limit: u32, text: &[u8]) -> Option<(u32, u32)>
 fn spelled(text: &[u8]) -> Option<Profile>
     ensures { option_map measures_of result ≡ spelled text.now }
 {
-    let (size, rate) = cut(b'@', text)?;
-    let (width, height) = pair(b'x', 4096, size)?;
-    let (num, den) = pair(b'/', 100000, rate)?;
+    let (size, rate) = split_once(b'@', text)?;
+    let (width, height) = pair(b'x', MOST_PIXELS, size)?;
+    let (num, den) = pair(b'/', MOST_OF_RATE, rate)?;
     within(width, height, num, den)
 }
 

@@ -1,7 +1,8 @@
 //! Times of day in a run, as the number of the frame that they mean.
 
 ghost use Rattle.std.specs.Prelude.{◌≡◌, ℕ, ◌+◌, ◌^◌, ◌-◌, ◌*◌, ◌/◌, ◌<◌, ◌≤◌, length, min, IfOk};
-ghost use Rattle.mlt_base.specs.Reading.{Gives, number, below};
+ghost use Rattle.mlt_base.specs.Reading.{number, below};
+ghost use Rattle.mlt_base.specs.Try.{Gives};
 ghost use Rattle.mlt_base.specs.Time.{seconds_of, milliseconds_of, frames_a_second, frames_of, last_digits, fraction_digits, behind_seconds, behind_hours, behind_first, form_of, time, Clock, Counted};
 ghost use Rattle.mlt_base.specs.TimeParts.{form_view, IsShort};
 

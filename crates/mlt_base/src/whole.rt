@@ -1,7 +1,8 @@
 //! Whole numbers with an optional sign.
 
 ghost use Rattle.std.specs.Prelude.{◌≡◌, ◌+◌, ◌^◌, ◌-◌, ◌<◌, length};
-ghost use Rattle.mlt_base.specs.Reading.{Gives, number};
+ghost use Rattle.mlt_base.specs.Reading.{number};
+ghost use Rattle.mlt_base.specs.Try.{Gives};
 ghost use Rattle.mlt_base.specs.Whole.{digits_to_end, positive, negative, whole};
 
 use crate::fault::NumFault;

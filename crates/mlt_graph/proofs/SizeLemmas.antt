@@ -20,7 +20,7 @@ use Rattle.mlt_tree.specs.Edits.{frames_in}
 use Rattle.mlt_tree.specs.Ranges.{frames}
 use Rattle.mlt_graph.specs.declared.size.Size.{Size}
 use Rattle.mlt_graph.proofs.Bounds.{tracks_in-of}
-use Rattle.mlt_graph.specs.Sizes.{kept, size_of, nothing, plain, entry_size, then_size, entries_size, over_size, drafts_size, list_size, tractor_size, Tells}
+use Rattle.mlt_graph.specs.Sizes.{kept, size_of, nothing, plain, entry_size, then_size, entries_size, over_size, drafts_size, list_size, tractor_size, AreSizes}
 
 abbrev sized : (length need depth : ℕ) → Size
 sized length need depth = record { length = length; need = need; depth = depth }
@@ -42,7 +42,7 @@ need_in-some : (parts : Parts) → 1 ≤ need_in parts
 need_in-some End = omega arith
 need_in-some (Then t parts) = omega (arith, need_in-some parts)
 
-module _ (table : List Size) (units : ℕ → Tree) (depths : ℕ → ℕ) (tells : Tells table units depths) where
+module _ (table : List Size) (units : ℕ → Tree) (depths : ℕ → ℕ) (tells : AreSizes table units depths) where
   abbrev entry_depth : Entry → ℕ
   entry_depth (Clip unit span filters) = depths unit.0
   entry_depth (Gap frames) = 0

@@ -1,29 +1,30 @@
 -- The units of a graph, and what holds of them and of the table of their sizes.
 use Rattle.std.specs.Prelude.{◌≡◌, ◌≤◌, ◌<◌, ◌^◌, ℕ, List, length, All}
+use Rattle.mlt_base.specs.declared.limits.TheConstants.{MOST_TRACKS}
 use Rattle.mlt_tree.specs.declared.node.Body.{Body}
 use Rattle.mlt_tree.specs.declared.node.Body.TheVariants.{Source, Entries, Tractor}
 use Rattle.mlt_tree.specs.declared.node.Node.{Node}
 use Rattle.mlt_tree.specs.Tree.{Tree, len}
 use Rattle.mlt_tree.specs.Units.{tree_of, depth_of, IsGraph}
 use Rattle.mlt_graph.specs.declared.size.Size.{Size}
-use Rattle.mlt_graph.specs.Sizes.{Tells}
+use Rattle.mlt_graph.specs.Sizes.{AreSizes}
 
 -- a unit has a frame, and fewer than 2^31 of them
 pub record HasLength (tree : Tree) : Type 0 where
   pub some : 1 ≤ len tree
   pub short : len tree < 2 ^ 31
 
--- a tractor has at most 256 tracks
+-- a tractor has only so many tracks
 abbrev pub HasFewTracks : Body → Type 0
 HasFewTracks (Source source kind frames) = Unit {0}
 HasFewTracks (Entries entries) = Unit {0}
-HasFewTracks (Tractor tracks plants) = length tracks ≤ 256
+HasFewTracks (Tractor tracks plants) = length tracks ≤ MOST_TRACKS
 
 -- units of a graph, with the table of their sizes
 pub record IsSized (nodes : List Node) (sizes : List Size) : Type 0 where
   pub graph : IsGraph nodes
   pub few : length nodes < 2 ^ 32
   pub long : length sizes ≡ length nodes
-  pub told : Tells sizes (tree_of nodes) (depth_of nodes)
+  pub told : AreSizes sizes (tree_of nodes) (depth_of nodes)
   pub lengths : (unit : ℕ) → unit < length nodes → HasLength (tree_of nodes unit)
   pub tracks : All (λ node. HasFewTracks node.body) nodes

@@ -1,5 +1,6 @@
 -- Sealing: refused where the unit is nested too deep, and then where it is too heavy.
 use Rattle.std.specs.Prelude.{ℕ, nat_lt, if◌then◌else◌, List, Result, Ok, Err}
+use Rattle.mlt_base.specs.declared.limits.TheConstants.{MOST_DEPTH, MOST_WEIGHT}
 use Rattle.mlt_tree.specs.declared.node.Node.{Node}
 use Rattle.mlt_tree.specs.Sizes.{weight}
 use Rattle.mlt_tree.specs.Units.{tree_of, depth_of}
@@ -9,4 +10,4 @@ use Rattle.mlt_graph.specs.Sealed.{Shown}
 
 abbrev pub seal : List Node → ℕ → Result Shown GraphFault
 seal units top =
-    if nat_lt 16 (depth_of units top) then Err (TooDeep (depth_of units top)) else (if nat_lt 65536 (weight (tree_of units top)) then Err (TooMany 65536) else Ok (record { units = units; top = top }))
+    if nat_lt MOST_DEPTH (depth_of units top) then Err (TooDeep (depth_of units top)) else (if nat_lt MOST_WEIGHT (weight (tree_of units top)) then Err (TooMany MOST_WEIGHT) else Ok (record { units = units; top = top }))

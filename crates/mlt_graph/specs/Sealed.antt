@@ -1,5 +1,6 @@
 -- What is played: units, and which of them.
 use Rattle.std.specs.Prelude.{◌≡◌, ◌≤◌, ◌<◌, ◌^◌, ℕ, List, length}
+use Rattle.mlt_base.specs.declared.limits.TheConstants.{MOST_DEPTH, MOST_WEIGHT}
 use Rattle.mlt_tree.specs.declared.node.Node.{Node}
 use Rattle.mlt_tree.specs.Sizes.{need, weight, ops}
 use Rattle.mlt_tree.specs.Tree.{Tree, len}
@@ -21,8 +22,8 @@ pub record IsSealed (shown : Shown) : Type 0 where
 -- what else holds of it, with the numbers that are kept of it
 pub record IsKept (shown : Shown) (count buffers operations : ℕ) : Type 0 where
   pub is : IsSealed shown
-  pub depth : depth_of shown.units shown.top ≤ 16
-  pub weight : weight (tree shown) ≤ 65536
+  pub depth : depth_of shown.units shown.top ≤ MOST_DEPTH
+  pub weight : weight (tree shown) ≤ MOST_WEIGHT
   pub length : count ≡ len (tree shown)
   pub some : 1 ≤ count
   pub short : count < 2 ^ 31

@@ -1,10 +1,7 @@
 -- What a show means.
 use Rattle.std.specs.Prelude.{List}
-use Rattle.mlt_base.specs.declared.profile.Profile.{Profile}
-use Rattle.mlt_base.specs.declared.profile.Rate.{Rate}
 use Rattle.mlt_tree.specs.Show as meaning
 use Rattle.mlt_base.specs.ProfileView.{measures_of}
-use Rattle.mlt_tree.specs.Composition.{Frames, frames_by}
 use Rattle.mlt_graph.specs.declared.show.Format.{Format}
 use Rattle.mlt_graph.specs.declared.show.Format.TheVariants.{S16, S32}
 use Rattle.mlt_graph.specs.declared.show.Output.{Output}
@@ -12,12 +9,6 @@ use Rattle.mlt_graph.specs.declared.show.Pix.{Pix}
 use Rattle.mlt_graph.specs.declared.show.Pix.TheVariants.{Rgb, Rgba}
 use Rattle.mlt_graph.specs.declared.show.Show.{Show}
 use Rattle.mlt_graph.specs.Sealed.{tree}
-
-abbrev pub fraction : Rate → meaning.Fraction
-fraction rate = record { num = rate.num; den = rate.den }
-
-abbrev pub profile_view : Profile → Frames
-profile_view profile = frames_by (measures_of profile)
 
 abbrev pub pix_of : Pix → meaning.Pix
 pix_of Rgb = meaning.Rgb
@@ -45,8 +36,7 @@ output_view output = record {
 -- a show with its sources
 abbrev pub meant : Show → List meaning.Source → meaning.Show
 meant show sources = record {
-  size = (profile_view show.profile).size;
-  rate = (profile_view show.profile).rate;
+  profile = measures_of show.profile;
   sources = sources;
   tree = tree show.sealed;
   output = output_view show.output;

@@ -60,5 +60,5 @@ tractor_size count tracks = record {
 }
 
 -- the table has the size of each unit
-pub record Tells (table : List Size) (units : ℕ → Tree) (depths : ℕ → ℕ) : Type 0 where
+pub record AreSizes (table : List Size) (units : ℕ → Tree) (depths : ℕ → ℕ) : Type 0 where
   pub each : (unit : ℕ) → unit < length table → slice_index_or table unit nothing ≡ size_of (units unit) (depths unit)

@@ -14,17 +14,12 @@ use crate::level::Level;
 use crate::sealed::Sealed;
 use crate::size::Size;
 use crate::weight::{Weight, weight_of};
+use mlt_base::limits::{MOST_DEPTH, MOST_WEIGHT};
 use mlt_base::{SourceNo, UnitId};
 use mlt_playlist::EntryList;
 use mlt_tree::{Body, FilterList, Node, SourceKind};
 use std::alloc::{AllocError, Global};
 use std::marker::Model;
-
-/// How deep a unit may be nested that is sealed.
-const MOST_DEPTH: u32 = 16;
-
-/// How much weight a unit may have that is sealed.
-const MOST_WEIGHT: u32 = 65_536;
 
 /// Units, each of which refers to lower-numbered ones alone. Contracts see a graph as their list.
 ///

@@ -2,6 +2,7 @@
 
 ghost use Rattle.std.specs.Prelude.{◌≡◌, ◌≤◌, [], length, All, IfOk};
 ghost use Rattle.std.specs.Borrow.{sem};
+ghost use Rattle.mlt_base.specs.declared.limits.TheConstants.{MOST_TRACKS};
 ghost use Rattle.mlt_playlist.specs.Playlist.{IsList};
 ghost use Rattle.mlt_graph.specs.LevelLends.{LendsLast};
 ghost use Rattle.mlt_graph.specs.Sizes.{drafts_size};
@@ -59,7 +60,7 @@ impl Level {
     pub fn tracks(&self) -> u32
         ensures value { result ≡ length (drafts_of self.now) }
         ensures some { 1 ≤ result }
-        ensures few { result ≤ 256 }
+        ensures few { result ≤ MOST_TRACKS }
         ensures lists { All (λ draft. IsList draft.entries) (drafts_of self.now) }
     {
         // its list is a playlist's, as those of the others are

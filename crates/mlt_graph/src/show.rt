@@ -1,6 +1,8 @@
 //! What is played, and where it goes.
 
 ghost use Rattle.std.specs.Prelude.{◌≡◌, ℕ, ◌+◌, ◌-◌, ◌≤◌, ◌<◌, ◌^◌};
+ghost use Rattle.mlt_base.specs.declared.limits.TheConstants.{MOST_WRITTEN};
+ghost use Rattle.mlt_tree.specs.declared.services.TheConstants as row;
 ghost use Rattle.mlt_tree.specs.Tree.{len};
 ghost use Rattle.mlt_graph.specs.Sealed.{tree};
 
@@ -78,13 +80,13 @@ pub struct Output {
     pub channels: u32,
     pub format: Format,
     pub ghost ordered: { first.0 ≤ last.0 },
-    pub ghost few: { last.0 + 1 - first.0 ≤ 1000000 },
-    pub ghost workers_at_most: { workers ≤ 16 },
-    pub ghost buffer_at_least_one: { 1 ≤ buffer },
-    pub ghost buffer_at_most: { buffer ≤ 64 },
-    pub ghost slices_at_least_one: { 1 ≤ slices },
-    pub ghost slices_at_most: { slices ≤ 16 },
-    pub ghost cache_at_most: { cache ≤ 64 },
+    pub ghost few: { last.0 + 1 - first.0 ≤ MOST_WRITTEN },
+    pub ghost workers_at_most: { workers ≤ row.REAL_TIME.high },
+    pub ghost buffer_at_least_one: { row.BUFFER.low ≤ buffer },
+    pub ghost buffer_at_most: { buffer ≤ row.BUFFER.high },
+    pub ghost slices_at_least_one: { row.SLICES.low ≤ slices },
+    pub ghost slices_at_most: { slices ≤ row.SLICES.high },
+    pub ghost cache_at_most: { cache ≤ row.CACHE.high },
     pub ghost channels_at_least_one: { 1 ≤ channels },
     pub ghost channels_at_most: { channels ≤ 8 },
 }

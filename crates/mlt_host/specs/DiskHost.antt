@@ -22,12 +22,12 @@ abbrev pub disk_of : {D O E F : Type 0} → DiskHost D O E F → D
 disk_of host = host.disk
 
 -- what writes to standard output
-abbrev pub output_of : {D O E F : Type 0} → DiskHost D O E F → O
-output_of host = host.output
+abbrev pub stdout_of : {D O E F : Type 0} → DiskHost D O E F → O
+stdout_of host = host.stdout
 
 -- what writes to standard error
-abbrev pub errors_of : {D O E F : Type 0} → DiskHost D O E F → E
-errors_of host = host.errors
+abbrev pub stderr_of : {D O E F : Type 0} → DiskHost D O E F → E
+stderr_of host = host.stderr
 
 -- where the port goes
 abbrev pub disk_place : {D O E F : Type 0} → DiskHost D O E F → Port → Place
@@ -39,7 +39,7 @@ disk_open host port = file_at host.outlets port
 
 -- the bytes where the port goes, where they are known, by what a file, standard output and standard error tell
 abbrev pub holds : {D O E F : Type 0} → (F → Option (List ℕ)) → (O → Option (List ℕ)) → (E → Option (List ℕ)) → DiskHost D O E F → Port → Option (List ℕ)
-holds file output errors host port = held_at file (output host.output) (errors host.errors) host.outlets port
+holds file stdout stderr host port = held_at file (stdout host.stdout) (stderr host.stderr) host.outlets port
 
 -- another port has the file of that name open, or the name is too long
 abbrev pub IsTaken : {D O E F : Type 0} → DiskHost D O E F → Port → List ℕ → Type 0
@@ -48,6 +48,6 @@ IsTaken host port name = ((other : Port) × (other ≢ port) × (disk_place host
 -- nothing but its counts has changed
 pub record OnlyCounts {D O E F : Type 0} (old new : DiskHost D O E F) : Type 0 where
   pub disk : new.disk ≡ old.disk
-  pub output : new.output ≡ old.output
-  pub errors : new.errors ≡ old.errors
+  pub stdout : new.stdout ≡ old.stdout
+  pub stderr : new.stderr ≡ old.stderr
   pub outlets : new.outlets ≡ old.outlets

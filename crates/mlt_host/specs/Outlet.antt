@@ -52,20 +52,20 @@ file_at outlets Text = None
 
 -- the bytes where it goes, where they are known: those of standard output, or of the file
 abbrev pub sink_holds : {F : Type 0} → (F → Option (List ℕ)) → Option (List ℕ) → Sink F → Option (List ℕ)
-sink_holds contents output Nowhere = None
-sink_holds contents output Output = output
-sink_holds contents output (Open file) = contents file
+sink_holds contents stdout Nowhere = None
+sink_holds contents stdout Output = stdout
+sink_holds contents stdout (Open file) = contents file
 
 -- the bytes where the outlet goes, where they are known
 abbrev pub outlet_holds : {F : Type 0} → (F → Option (List ℕ)) → Option (List ℕ) → Outlet F → Option (List ℕ)
-outlet_holds contents output outlet = sink_holds contents output outlet.sink
+outlet_holds contents stdout outlet = sink_holds contents stdout outlet.sink
 
 -- the bytes where the port goes, where they are known, by those of a file, of standard output and of standard error
 abbrev pub held_at : {F : Type 0} → (F → Option (List ℕ)) → Option (List ℕ) → Option (List ℕ) → Outlets F → Port → Option (List ℕ)
-held_at contents output errors outlets Video = outlet_holds contents output outlets.video
-held_at contents output errors outlets Audio = outlet_holds contents output outlets.audio
-held_at contents output errors outlets Script = outlet_holds contents output outlets.script
-held_at contents output errors outlets Text = errors
+held_at contents stdout stderr outlets Video = outlet_holds contents stdout outlets.video
+held_at contents stdout stderr outlets Audio = outlet_holds contents stdout outlets.audio
+held_at contents stdout stderr outlets Script = outlet_holds contents stdout outlets.script
+held_at contents stdout stderr outlets Text = stderr
 
 -- where a name leads
 abbrev pub named_place : List ℕ → Place

@@ -26,8 +26,8 @@ use std::io::Write;
 #[derive(Drop)]
 pub struct DiskHost<D: Disk + Drop, O: Write + Drop, E: Write + Drop> {
     disk: D,
-    output: O,
-    errors: E,
+    stdout: O,
+    stderr: E,
     outlets: Outlets<D::File>,
     load_faults: u64,
     faults: [u64; PORTS],
@@ -36,22 +36,22 @@ pub struct DiskHost<D: Disk + Drop, O: Write + Drop, E: Write + Drop> {
 
 impl<D: Disk + Drop, O: Write + Drop, E: Write + Drop> DiskHost<D, O, E> {
     ghost use Rattle.mlt_host.specs.Outlet.{first_place};
-    ghost use Rattle.mlt_host.specs.DiskHost.{disk_state, disk_place, disk_open, disk_of, output_of, errors_of};
+    ghost use Rattle.mlt_host.specs.DiskHost.{disk_state, disk_place, disk_open, disk_of, stdout_of, stderr_of};
 
     /// A host over a disk, standard output and standard error. No port is created.
-    pub fn new(disk: D, output: O, errors: E) -> DiskHost<D, O, E>
+    pub fn new(disk: D, stdout: O, stderr: E) -> DiskHost<D, O, E>
         ensures load_faults { (disk_state result).load_faults ≡ 0 }
         ensures faults { (port : Port) → (disk_state result).faults port ≡ 0 }
         ensures creates { (port : Port) → (disk_state result).creates port ≡ 0 }
         ensures places { (port : Port) → disk_place result port ≡ first_place port }
         ensures disk { disk_of result ≡ disk }
-        ensures output { output_of result ≡ output }
-        ensures errors { errors_of result ≡ errors }
+        ensures stdout { stdout_of result ≡ stdout }
+        ensures stderr { stderr_of result ≡ stderr }
     {
         DiskHost {
             disk,
-            output,
-            errors,
+            stdout,
+            stderr,
             outlets: Outlets::new(),
             load_faults: 0,
             faults: [0; PORTS],
@@ -75,17 +75,17 @@ impl<D: Disk + Drop, O: Write + Drop, E: Write + Drop> DiskHost<D, O, E> {
     }
 
     /// What writes to standard output.
-    pub fn output(&self) -> &O
-        ensures { result.now ≡ output_of self.now }
+    pub fn stdout(&self) -> &O
+        ensures { result.now ≡ stdout_of self.now }
     {
-        &self.output
+        &self.stdout
     }
 
     /// What writes to standard error.
-    pub fn errors(&self) -> &E
-        ensures { result.now ≡ errors_of self.now }
+    pub fn stderr(&self) -> &E
+        ensures { result.now ≡ stderr_of self.now }
     {
-        &self.errors
+        &self.stderr
     }
 }
 
@@ -95,7 +95,7 @@ impl<D: Disk + Drop, O: Write + Drop, E: Write + Drop> Host for DiskHost<D, O, E
     ghost use Rattle.mlt_host.specs.Count.{load_count, port_count, create_count};
     ghost use Rattle.mlt_host.specs.Outlet.{NoPlace, StandardOutput, FileOf, place_after};
     ghost use Rattle.mlt_host.specs.DiskFile.{IsLoadOf};
-    ghost use Rattle.mlt_host.specs.DiskHost.{disk_state, disk_place, disk_open, disk_of, output_of, errors_of, holds, OnlyCounts, IsTaken};
+    ghost use Rattle.mlt_host.specs.DiskHost.{disk_state, disk_place, disk_open, disk_of, stdout_of, stderr_of, holds, OnlyCounts, IsTaken};
 
     ghost state = { λ host. disk_state host };
 
@@ -139,11 +139,11 @@ impl<D: Disk + Drop, O: Write + Drop, E: Write + Drop> Host for DiskHost<D, O, E
         ensures idle_text { port ≡ Port.Text → disk_of self.new ≡ disk_of self.old }
         ensures unopened { OnErr result (disk_open self.new port ≡ disk_open self.old port) }
         ensures files { (other : Port) → other ≢ port → disk_open self.new other ≡ disk_open self.old other }
-        ensures output_stays { output_of self.new ≡ output_of self.old }
-        ensures errors_stay { errors_of self.new ≡ errors_of self.old }
+        ensures stdout_stays { stdout_of self.new ≡ stdout_of self.old }
+        ensures stderr_stay { stderr_of self.new ≡ stderr_of self.old }
 
         ensures text { port ≡ Port.Text → IsOk result }
-        ensures output { name.now ≡ codes "-" → IsOk result }
+        ensures stdout { name.now ≡ codes "-" → IsOk result }
         ensures count { (disk_state self.new).faults port ≡ port_count result ((disk_state self.old).faults port) }
     {
         match outlet::create(&mut self.disk, &mut self.outlets, port, name) {
@@ -170,8 +170,8 @@ impl<D: Disk + Drop, O: Write + Drop, E: Write + Drop> Host for DiskHost<D, O, E
         ensures written { OnOk result (Adds (holds D.File.contents O.contents E.contents self.old port) (holds D.File.contents O.contents E.contents self.new port) bytes.now) }
         ensures front { OnErr result ((kept : ℕ) × Adds (holds D.File.contents O.contents E.contents self.old port) (holds D.File.contents O.contents E.contents self.new port) (take kept bytes.now)) }
         ensures files { (other : Port) → other ≢ port → disk_open self.new other ≡ disk_open self.old other }
-        ensures output { disk_place self.old port ≢ StandardOutput → output_of self.new ≡ output_of self.old }
-        ensures errors { port ≢ Port.Text → errors_of self.new ≡ errors_of self.old }
+        ensures stdout { disk_place self.old port ≢ StandardOutput → stdout_of self.new ≡ stdout_of self.old }
+        ensures stderr { port ≢ Port.Text → stderr_of self.new ≡ stderr_of self.old }
         ensures disk { disk_of self.new ≡ disk_of self.old }
 
         ensures count { (disk_state self.new).faults port ≡ port_count result ((disk_state self.old).faults port) }
@@ -181,8 +181,8 @@ impl<D: Disk + Drop, O: Write + Drop, E: Write + Drop> Host for DiskHost<D, O, E
     {
         let appended = outlet::append(
             &mut self.outlets,
-            &mut self.output,
-            &mut self.errors,
+            &mut self.stdout,
+            &mut self.stderr,
             port,
             bytes,
         );

@@ -90,7 +90,7 @@ fn both_streams_get_what_is_theirs(rt: HostRuntime) -> Result<(), Fail> {
     assert_eq!(rt; host.append(Port::Audio, b"ab"), Ok(()));
     assert_eq!(rt; host.append(Port::Script, b"c"), Ok(()));
     assert_eq!(rt; host.append(Port::Text, b"de"), Ok(()));
-    assert_eq!(rt; host.output().as_slice(), b"abc".as_slice());
-    assert_eq!(rt; host.errors().as_slice(), b"de".as_slice());
+    assert_eq!(rt; host.stdout().as_slice(), b"abc".as_slice());
+    assert_eq!(rt; host.stderr().as_slice(), b"de".as_slice());
     Ok(())
 }

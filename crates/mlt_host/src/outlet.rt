@@ -112,7 +112,7 @@ fn lead<D: Disk>(
     ensures third { outlet_place third.now ≡ FileOf name.now → name.now ≢ codes "-" → IsErr result }
     ensures opened { OnOk result (IfSome (outlet_file outlet.new) (λ file. D.writes disk.old name.now file disk.new)) }
     ensures why { OnErr result (((outlet_place second.now ≡ FileOf name.now) ⊎ (outlet_place third.now ≡ FileOf name.now) ⊎ (4096 < length name.now)) × (disk.new ≡ disk.old) ⊎ D.refuses disk.old name.now disk.new) }
-    ensures output { name.now ≡ codes "-" → IsOk result }
+    ensures stdout { name.now ≡ codes "-" → IsOk result }
     ensures idle { name.now ≡ codes "-" → disk.new ≡ disk.old }
 {
     if name == OUTPUT {
@@ -142,7 +142,7 @@ pub(crate) fn create<D: Disk>(
     name: &str,
 ) -> Result<(), Failed>
     ensures text { port ≡ Port.Text → IsOk result }
-    ensures output { name.now ≡ codes "-" → IsOk result }
+    ensures stdout { name.now ≡ codes "-" → IsOk result }
     ensures ok { OnOk result (place_at outlets.new port ≡ place_after port name.now) }
     ensures err { OnErr result (outlets.new ≡ outlets.old) }
     ensures others { (other : Port) → other ≢ port → place_at outlets.new other ≡ place_at outlets.old other }
@@ -183,18 +183,18 @@ pub(crate) fn create<D: Disk>(
 /// fails; a front of the bytes was then written.
 fn write_to<F: Write, O: Write>(
     outlet: &mut Outlet<F>,
-    output: &mut O,
+    stdout: &mut O,
     bytes: &[u8],
 ) -> Result<(), Failed>
     ensures nowhere { outlet_place outlet.old ≡ NoPlace → IsErr result }
     ensures place { outlet_place outlet.new ≡ outlet_place outlet.old }
-    ensures written { OnOk result (Appends (outlet_holds F.contents (O.contents output.old) outlet.old) (outlet_holds F.contents (O.contents output.new) outlet.new) bytes.now) }
-    ensures front { OnErr result ((kept : ℕ) × Appends (outlet_holds F.contents (O.contents output.old) outlet.old) (outlet_holds F.contents (O.contents output.new) outlet.new) (take kept bytes.now)) }
-    ensures output { outlet_place outlet.old ≢ StandardOutput → output.new ≡ output.old }
+    ensures written { OnOk result (Appends (outlet_holds F.contents (O.contents stdout.old) outlet.old) (outlet_holds F.contents (O.contents stdout.new) outlet.new) bytes.now) }
+    ensures front { OnErr result ((kept : ℕ) × Appends (outlet_holds F.contents (O.contents stdout.old) outlet.old) (outlet_holds F.contents (O.contents stdout.new) outlet.new) (take kept bytes.now)) }
+    ensures stdout { outlet_place outlet.old ≢ StandardOutput → stdout.new ≡ stdout.old }
 {
     match &mut outlet.sink {
         Sink::Nowhere => Err(Failed),
-        Sink::Output => write_whole(output, bytes),
+        Sink::Output => write_whole(stdout, bytes),
         Sink::Open(file) => write_whole(file, bytes),
     }
 }
@@ -203,23 +203,23 @@ fn write_to<F: Write, O: Write>(
 /// was never created, and where a write fails; a front of the bytes was then written.
 pub(crate) fn append<F: Write, O: Write, E: Write>(
     outlets: &mut Outlets<F>,
-    output: &mut O,
-    errors: &mut E,
+    stdout: &mut O,
+    stderr: &mut E,
     port: Port,
     bytes: &[u8],
 ) -> Result<(), Failed>
     ensures nowhere { place_at outlets.old port ≡ NoPlace → IsErr result }
     ensures places { (each : Port) → place_at outlets.new each ≡ place_at outlets.old each }
-    ensures written { OnOk result (Appends (held_at F.contents (O.contents output.old) (E.contents errors.old) outlets.old port) (held_at F.contents (O.contents output.new) (E.contents errors.new) outlets.new port) bytes.now) }
-    ensures front { OnErr result ((kept : ℕ) × Appends (held_at F.contents (O.contents output.old) (E.contents errors.old) outlets.old port) (held_at F.contents (O.contents output.new) (E.contents errors.new) outlets.new port) (take kept bytes.now)) }
+    ensures written { OnOk result (Appends (held_at F.contents (O.contents stdout.old) (E.contents stderr.old) outlets.old port) (held_at F.contents (O.contents stdout.new) (E.contents stderr.new) outlets.new port) bytes.now) }
+    ensures front { OnErr result ((kept : ℕ) × Appends (held_at F.contents (O.contents stdout.old) (E.contents stderr.old) outlets.old port) (held_at F.contents (O.contents stdout.new) (E.contents stderr.new) outlets.new port) (take kept bytes.now)) }
     ensures files { (other : Port) → other ≢ port → file_at outlets.new other ≡ file_at outlets.old other }
-    ensures output { place_at outlets.old port ≢ StandardOutput → output.new ≡ output.old }
-    ensures errors { port ≢ Port.Text → errors.new ≡ errors.old }
+    ensures stdout { place_at outlets.old port ≢ StandardOutput → stdout.new ≡ stdout.old }
+    ensures stderr { port ≢ Port.Text → stderr.new ≡ stderr.old }
 {
     match port {
-        Port::Video => write_to(&mut outlets.video, output, bytes),
-        Port::Audio => write_to(&mut outlets.audio, output, bytes),
-        Port::Script => write_to(&mut outlets.script, output, bytes),
-        Port::Text => write_whole(errors, bytes),
+        Port::Video => write_to(&mut outlets.video, stdout, bytes),
+        Port::Audio => write_to(&mut outlets.audio, stdout, bytes),
+        Port::Script => write_to(&mut outlets.script, stdout, bytes),
+        Port::Text => write_whole(stderr, bytes),
     }
 }

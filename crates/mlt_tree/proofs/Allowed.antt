@@ -5,7 +5,7 @@ use Rattle.std.specs.Str.{byte}
 use Rattle.std.proofs.lemmas.List.Elements.{All-append, All-cons}
 use Rattle.std.proofs.lemmas.Bool.Decides.{nat_tests}
 use Rattle.mlt_base.specs.declared.faults.WordCause.TheVariants.{TooMany}
-use Rattle.mlt_tree.specs.declared.group.TheConstants.{MOST_WORDS}
+use Rattle.mlt_base.specs.declared.limits.TheConstants.{MOST_WORDS}
 use Rattle.mlt_tree.specs.declared.group.Group.{Group}
 use Rattle.mlt_tree.specs.declared.group.GroupKind.{GroupKind}
 use Rattle.mlt_tree.specs.declared.group.GroupKind.TheVariants.{Producer}

@@ -8,7 +8,7 @@ use Rattle.mlt_base.specs.declared.faults.WordFault.{WordFault}
 use Rattle.mlt_base.specs.declared.faults.WordCause.TheVariants.{TooMany}
 use Rattle.mlt_base.specs.Steps.{◌>>=◌}
 use Rattle.mlt_base.specs.Name.{name_of}
-use Rattle.mlt_tree.specs.declared.group.TheConstants.{MOST_WORDS}
+use Rattle.mlt_base.specs.declared.limits.TheConstants.{MOST_WORDS}
 use Rattle.mlt_tree.specs.declared.group.Group.{Group}
 use Rattle.mlt_tree.specs.declared.group.GroupKind.{GroupKind}
 use Rattle.mlt_tree.specs.declared.group.GroupKind.TheVariants.{Producer}

@@ -1,6 +1,8 @@
 -- Producers: what a word has made, and the clip of it at the track's end.
 use Rattle.std.specs.Prelude.{ℕ, ◌+◌, ◌-◌, ◌&&◌, nat_le, nat_lt, max, min, if◌then◌else◌, [], ◌∷◌, ◌++◌, length, Option, None, Some, unwrap_or, Result, Ok}
 use Rattle.mlt_base.specs.Colour.{Pixel, colour_of}
+use Rattle.mlt_base.specs.declared.limits.TheConstants as limit
+use Rattle.mlt_base.specs.Profile.{Measures}
 use Rattle.mlt_base.specs.Steps.{◌>>=◌}
 use Rattle.mlt_tree.specs.declared.group.Group.{Group}
 use Rattle.mlt_tree.specs.declared.refusal.Cause.TheVariants as cause
@@ -8,11 +10,11 @@ use Rattle.mlt_tree.specs.declared.refusal.Refusal.{Refusal}
 use Rattle.mlt_tree.specs.declared.services.Producer.{Producer}
 use Rattle.mlt_tree.specs.declared.services.Producer.TheVariants.{Colour, Picture, Sound, Melt}
 use Rattle.mlt_tree.specs.declared.services.TheConstants as row
-use Rattle.mlt_tree.specs.Composition.{Frames, Made, State, props_of, track, with_track}
+use Rattle.mlt_tree.specs.Composition.{Made, State, props_of, track, with_track}
 use Rattle.mlt_tree.specs.Edits as edit
 use Rattle.mlt_tree.specs.Edits.{clip}
 use Rattle.mlt_tree.specs.Props.{number, moment, moment_or_first}
-use Rattle.mlt_tree.specs.Refusing.{refuse, known, at_group}
+use Rattle.mlt_tree.specs.Refusing.{refuse, or_refuse, at_group}
 use Rattle.mlt_tree.specs.Services.{Named, colour_name}
 use Rattle.mlt_tree.specs.Show.{Source, Plain, kind_of}
 use Rattle.mlt_tree.specs.Units.{source_unit}
@@ -39,7 +41,7 @@ pub data Origin : Type 0 where
 abbrev pub origin_of : ℕ → Named → Result Origin Refusal
 origin_of place named = by named.producer where
   by : Producer → Result Origin Refusal
-  by Colour = known place cause.BadValue (colour_of (colour_name named.arg)) >>= λ pixel. Ok (OfColour pixel)
+  by Colour = or_refuse place cause.BadValue (colour_of (colour_name named.arg)) >>= λ pixel. Ok (OfColour pixel)
   by Picture = refuse place cause.Unsupported
   by Sound = refuse place cause.Unsupported
   by Melt = refuse place cause.Unsupported
@@ -52,8 +54,8 @@ pub record Wanted : Type 0 where
 
 unfoldable pub wanted_by : State → Group → Result Wanted Refusal
 wanted_by s g = do
-  first ← moment_or_first row.IN s.frames.rate (props_of s g)
-  last ← moment row.OUT s.frames.rate (props_of s g)
+  first ← moment_or_first row.IN s.profile (props_of s g)
+  last ← moment row.OUT s.profile (props_of s g)
   length ← number row.LENGTH (props_of s g)
   Ok (record { first = first; last = last; length = length })
 
@@ -66,14 +68,14 @@ pub record Product : Type 0 where
   pub frames : ℕ
 
 -- the length of a source by itself
-abbrev pub own_length : Frames → Source → ℕ
-own_length frames (Plain pixel) = 15000
+abbrev pub own_length : Measures → Source → ℕ
+own_length profile (Plain pixel) = limit.OWN_LENGTH
 
 -- the length of a source: what is asked for, else its own, or as far as the clip goes where that is more
 abbrev pub length_by : ℕ → Option ℕ → Option ℕ → ℕ
 length_by own last (Some length) = length
 length_by own None None = own
-length_by own (Some last) None = min (max own (last + 1)) 2147483647
+length_by own (Some last) None = min (max own (last + 1)) row.LENGTH.high
 
 -- a source and its unit, which have the next numbers
 abbrev pub with_source : Made → Source → ℕ → Made
@@ -82,9 +84,9 @@ with_source made source frames = record made {
   sources = made.sources ++ source ∷ [];
 }
 
-abbrev pub source_made : Frames → Made → Source → Wanted → Product
-source_made frames made source asked =
-    let length_asked = length_by (own_length frames source) asked.last asked.length in
+abbrev pub source_made : Measures → Made → Source → Wanted → Product
+source_made profile made source asked =
+    let length_asked = length_by (own_length profile source) asked.last asked.length in
     record { made = with_source made source length_asked; unit = length made.units; frames = length_asked }
 
 -- ---- the clip of it

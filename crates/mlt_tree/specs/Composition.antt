@@ -1,6 +1,8 @@
 -- A composition as far as its words are read, and what one group does to it.
 use Rattle.std.specs.Prelude.{ℕ, ℤ, ◌-◌, Bool, true, false, if◌then◌else◌, List, [], ◌∷◌, ◌++◌, length, Option, None, Some, Result, Ok}
-use Rattle.mlt_base.specs.Profile.{Measures, profile}
+use Rattle.mlt_base.specs.declared.limits.TheConstants.{MOST_ENTRIES}
+use Rattle.mlt_base.specs.declared.table.TheConstants.{DV_PAL}
+use Rattle.mlt_base.specs.Profile.{Measures, row_measures, profile}
 use Rattle.mlt_base.specs.Steps.{◌>>=◌}
 use Rattle.mlt_base.specs.Whole.{whole}
 use Rattle.mlt_tree.specs.declared.entry.Entry.{Entry}
@@ -13,36 +15,24 @@ use Rattle.mlt_tree.specs.declared.refusal.Refusal.{Refusal}
 use Rattle.mlt_tree.specs.declared.services.TheConstants as row
 use Rattle.mlt_tree.specs.Edits as edit
 use Rattle.mlt_tree.specs.Edits.{Edit}
-use Rattle.mlt_tree.specs.Props.{counted, timed, count, size, choice, moment}
-use Rattle.mlt_tree.specs.Refusing.{refuse, known, at_word, at_group}
+use Rattle.mlt_tree.specs.Props.{counted, timed, count, distance, choice, moment}
+use Rattle.mlt_tree.specs.Refusing.{refuse, or_refuse, at_word, at_group}
 use Rattle.mlt_tree.specs.Services.{raw_of}
-use Rattle.mlt_tree.specs.Show.{Size, Fraction, Source, Pix, Rgb, Rgba}
+use Rattle.mlt_tree.specs.Show.{Source, Pix, Rgb, Rgba}
 use Rattle.mlt_tree.specs.Table.{is_kind}
 use Rattle.mlt_tree.specs.Units.{Level, empty_level, with_entries, list_unit}
 
 -- ---- the profile
 
--- the size and rate of frames
-pub record Frames : Type 0 where
-  pub size : Size
-  pub rate : Fraction
+abbrev pub default_profile : Measures
+default_profile = row_measures DV_PAL
 
-abbrev pub frames_by : Measures → Frames
-frames_by m = record {
-  size = record { width = m.width; height = m.height };
-  rate = record { num = m.num; den = m.den };
-}
-
--- `dv_pal`
-abbrev pub default_frames : Frames
-default_frames = record { size = record { width = 720; height = 576 }; rate = record { num = 25; den = 1 } }
-
-abbrev pub profile_named : Option Frames → Group → Result (Option Frames) Refusal
-profile_named None g = known g.place cause.BadValue (profile g.arg) >>= λ m. Ok (Some (frames_by m))
-profile_named (Some frames) g = refuse g.place (cause.TooMany 1)
+abbrev pub profile_named : Option Measures → Group → Result (Option Measures) Refusal
+profile_named None g = or_refuse g.place cause.BadValue (profile g.arg) >>= λ m. Ok (Some m)
+profile_named (Some first) g = refuse g.place (cause.TooMany 1)
 
 -- the first `-profile` counts, and a second is refused
-unfoldable pub profile_step : Option Frames → Group → Result (Option Frames) Refusal
+unfoldable pub profile_step : Option Measures → Group → Result (Option Measures) Refusal
 profile_step found g = if is_kind kind.Profile (Some g.kind) then profile_named found g else Ok found
 
 -- ---- the state of a composition
@@ -69,7 +59,7 @@ pub record Made : Type 0 where
 
 -- a composition as far as its groups are read
 pub record State : Type 0 where
-  pub frames : Frames
+  pub profile : Measures
   pub made : Made
   -- the tracks, and what is planted on them, with the places of the plants' groups
   pub level : Level
@@ -81,9 +71,9 @@ pub record State : Type 0 where
   pub consumer : Option Consumer
 
 -- before the first of so many words
-abbrev pub start : Frames → ℕ → State
-start frames words = record {
-  frames = frames;
+abbrev pub start : Measures → ℕ → State
+start profile words = record {
+  profile = profile;
   made = record { units = []; sources = []; loaded = 0; words = words };
   level = empty_level;
   plant_places = [];
@@ -110,7 +100,7 @@ edited s g done = at_group g.place done >>= λ answer. Ok (with_track s answer.1
 -- ---- edits of the track
 
 unfoldable pub blank : State → Group → Result State Refusal
-blank s g = timed s.frames.rate g.place g.arg >>= λ last. edited s g (edit.blank last (track s))
+blank s g = timed s.profile g.place g.arg >>= λ last. edited s g (edit.blank last (track s))
 
 -- what is done with the last entry, by its index
 abbrev pub on_last : State → Group → (ℕ → Result State Refusal) → Result State Refusal
@@ -123,7 +113,7 @@ abbrev pub remove : State → Group → Result State Refusal
 remove s g = on_last s g (λ last. edited s g (edit.remove last (track s)))
 
 unfoldable pub repeat : State → Group → Result State Refusal
-repeat s g = counted 1 100000 g.place g.arg >>= λ n. on_last s g (λ last. edited s g (edit.repeat_clip last n (track s)))
+repeat s g = counted 1 MOST_ENTRIES g.place g.arg >>= λ n. on_last s g (λ last. edited s g (edit.repeat_clip last n (track s)))
 
 abbrev pub split_at_frame : State → Group → ℤ → Result State Refusal
 split_at_frame s g k = on_last s g (λ last. edited s g (edit.split last k (track s)))
@@ -141,7 +131,7 @@ joined s g n = do
   Ok (record (with_track s done.1) { made = record s.made { units = s.made.units ++ list_unit done.0 ∷ [] } })
 
 unfoldable pub join : State → Group → Result State Refusal
-join s g = counted 1 100000 g.place g.arg >>= joined s g
+join s g = counted 1 MOST_ENTRIES g.place g.arg >>= joined s g
 
 -- ---- the consumer
 
@@ -152,16 +142,16 @@ pix_of false = Rgb
 unfoldable pub raw_output : State → Group → List ℕ → Result State Refusal
 raw_output s g video = do
   rgba ← choice row.PIX g.props
-  workers ← size row.REAL_TIME g.props
+  workers ← distance row.REAL_TIME g.props
   buffer ← count row.BUFFER g.props
   slices ← count row.SLICES g.props
   cache ← count row.CACHE g.props
-  first ← moment row.IN s.frames.rate g.props
-  last ← moment row.OUT s.frames.rate g.props
+  first ← moment row.IN s.profile g.props
+  last ← moment row.OUT s.profile g.props
   Ok (record s { consumer = Some (record { place = g.place; video = video; pix = pix_of rgba; workers = workers; buffer = buffer; slices = slices; cache = cache; first = first; last = last }) })
 
 abbrev pub first_consumer : State → Group → Option Consumer → Result State Refusal
-first_consumer s g None = known g.place cause.UnknownService (raw_of g.arg) >>= raw_output s g
+first_consumer s g None = or_refuse g.place cause.UnknownService (raw_of g.arg) >>= raw_output s g
 first_consumer s g (Some consumer) = refuse g.place (cause.TooMany 1)
 
 unfoldable pub consumer : State → Group → Result State Refusal

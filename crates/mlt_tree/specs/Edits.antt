@@ -6,6 +6,7 @@ use Rattle.mlt_base.specs.Reading.{held}
 use Rattle.mlt_base.specs.Span.{span}
 use Rattle.mlt_base.specs.declared.faults.PlayFault.{PlayFault}
 use Rattle.mlt_base.specs.declared.faults.PlayFault.TheVariants.{BadClip, BadSplit, BadRange, TooFew, TooMany, TooLong}
+use Rattle.mlt_base.specs.declared.limits.TheConstants.{MOST_ENTRIES}
 use Rattle.mlt_tree.specs.declared.entry.Entry.{Entry}
 use Rattle.mlt_tree.specs.declared.entry.Entry.TheVariants.{Clip, Gap}
 use Rattle.mlt_tree.specs.declared.tree.Attached.{Attached}
@@ -35,7 +36,7 @@ replaced es at n new = take at es ++ (new ++ drop (at + n) es)
 -- a list that may have grown: not too many entries, and not too many frames
 abbrev pub grown : {A : Type 0} → A → List Entry → Edit A
 grown answer es =
-    if nat_lt 100000 (length es) then Err (TooMany 100000) else (if nat_lt (frames_in es) (2 ^ 31) then Ok (answer, es) else Err (TooLong (frames_in es)))
+    if nat_lt MOST_ENTRIES (length es) then Err (TooMany MOST_ENTRIES) else (if nat_lt (frames_in es) (2 ^ 31) then Ok (answer, es) else Err (TooLong (frames_in es)))
 
 -- no entry, or no clip, is there
 abbrev pub bad_clip : {A : Type 0} → List Entry → ℕ → Edit A

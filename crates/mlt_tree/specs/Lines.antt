@@ -1,41 +1,61 @@
 -- The lines that a person is told, each whole and with its end.
-use Rattle.std.specs.Prelude.{ℕ, List, [], ◌++◌, Option, None, Some, codes, decimal}
+use Rattle.std.specs.Prelude.{ℕ, ℤ, List, [], ◌∷◌, ◌++◌, Option, None, Some, codes, decimal}
 use Rattle.std.specs.Fmt.{signed_decimal}
+use Rattle.std.specs.List.{flat_map}
 use Rattle.mlt_base.specs.declared.port.Port.{Port}
 use Rattle.mlt_base.specs.declared.port.Port.TheVariants.{Video, Audio, Script, Text}
 use Rattle.mlt_tree.specs.declared.refusal.Cause.{Cause}
 use Rattle.mlt_tree.specs.declared.refusal.Cause.TheVariants.{UnknownOption, Unsupported, MissingArgument, StrayProperty, UnknownService, BadValue, BadNumber, OutOfRange, TooFew, BadClip, BadSplit, BadRange, NoProducer, TooMany, TooLong, TooDeep, TooLarge}
 use Rattle.mlt_tree.specs.declared.refusal.Refusal.{Refusal}
 
-abbrev pub cause_text : Cause → List ℕ
-cause_text UnknownOption = codes "unknown option"
-cause_text Unsupported = codes "option not supported"
-cause_text MissingArgument = codes "argument missing"
-cause_text StrayProperty = codes "property without an object"
-cause_text UnknownService = codes "unknown service"
-cause_text BadValue = codes "bad value"
-cause_text (BadNumber fault) = codes "bad number"
-cause_text (OutOfRange value low high) =
-    signed_decimal value ++ (codes " is outside " ++ (signed_decimal low ++ (codes " to " ++ signed_decimal high)))
-cause_text (TooFew asked there) = decimal asked ++ (codes " wanted, " ++ (decimal there ++ codes " there"))
-cause_text (BadClip index count) = codes "no clip at " ++ (decimal index ++ (codes " of " ++ decimal count))
-cause_text (BadSplit at frames) = codes "cannot split " ++ (decimal frames ++ (codes " frames at " ++ signed_decimal at))
-cause_text (BadRange first last length) =
-    codes "bad range " ++ (decimal first ++ (codes " to " ++ (decimal last ++ (codes " of " ++ decimal length))))
-cause_text NoProducer = codes "nothing to play"
-cause_text (TooMany limit) = codes "more than " ++ decimal limit
-cause_text (TooLong frames) = decimal frames ++ codes " frames are too many"
-cause_text (TooDeep depth) = codes "nested " ++ (decimal depth ++ codes " deep")
-cause_text (TooLarge bytes) = decimal bytes ++ codes " bytes are too many"
+-- a piece of a line: words, or a number in decimal digits
+pub data Piece : Type 0 where
+  Words : List ℕ → Piece
+  Count : ℕ → Piece
+  Number : ℤ → Piece
+
+abbrev pub piece_text : Piece → List ℕ
+piece_text (Words text) = text
+piece_text (Count n) = decimal n
+piece_text (Number n) = signed_decimal n
+
+-- the pieces, one after another
+abbrev pub text_of : List Piece → List ℕ
+text_of pieces = flat_map piece_text pieces
+
+abbrev pub words : List ℕ → List Piece
+words text = Words text ∷ []
+
+-- why a word is refused
+abbrev pub cause_pieces : Cause → List Piece
+cause_pieces UnknownOption = words (codes "unknown option")
+cause_pieces Unsupported = words (codes "option not supported")
+cause_pieces MissingArgument = words (codes "argument missing")
+cause_pieces StrayProperty = words (codes "property without an object")
+cause_pieces UnknownService = words (codes "unknown service")
+cause_pieces BadValue = words (codes "bad value")
+cause_pieces (BadNumber fault) = words (codes "bad number")
+cause_pieces (OutOfRange value low high) = Number value ∷ Words (codes " is outside ") ∷ Number low ∷ Words (codes " to ") ∷ Number high ∷ []
+cause_pieces (TooFew asked there) = Count asked ∷ Words (codes " wanted, ") ∷ Count there ∷ Words (codes " there") ∷ []
+cause_pieces (BadClip index count) = Words (codes "no clip at ") ∷ Count index ∷ Words (codes " of ") ∷ Count count ∷ []
+cause_pieces (BadSplit at frames) = Words (codes "cannot split ") ∷ Count frames ∷ Words (codes " frames at ") ∷ Number at ∷ []
+cause_pieces (BadRange first last length) = Words (codes "bad range ") ∷ Count first ∷ Words (codes " to ") ∷ Count last ∷ Words (codes " of ") ∷ Count length ∷ []
+cause_pieces NoProducer = words (codes "nothing to play")
+cause_pieces (TooMany limit) = Words (codes "more than ") ∷ Count limit ∷ []
+cause_pieces (TooLong frames) = Count frames ∷ Words (codes " frames are too many") ∷ []
+cause_pieces (TooDeep depth) = Words (codes "nested ") ∷ Count depth ∷ Words (codes " deep") ∷ []
+cause_pieces (TooLarge bytes) = Count bytes ∷ Words (codes " bytes are too many") ∷ []
 
 -- the place within the file that a word names, where there is one
-abbrev pub inner_text : Option ℕ → List ℕ
-inner_text None = []
-inner_text (Some place) = codes "in file word " ++ (decimal place ++ codes ": ")
+abbrev pub inner_pieces : Option ℕ → List Piece
+inner_pieces None = []
+inner_pieces (Some place) = Words (codes "in file word ") ∷ Count place ∷ Words (codes ": ") ∷ []
+
+abbrev pub word_pieces : ℕ → List Piece
+word_pieces place = Words (codes "melt: word ") ∷ Count place ∷ Words (codes ": ") ∷ []
 
 abbrev pub refusal_line : Refusal → List ℕ
-refusal_line r =
-    codes "melt: word " ++ (decimal r.word ++ (codes ": " ++ (inner_text r.inner ++ (cause_text r.cause ++ codes "\n"))))
+refusal_line r = text_of (word_pieces r.word) ++ (text_of (inner_pieces r.inner) ++ (text_of (cause_pieces r.cause) ++ codes "\n"))
 
 abbrev pub port_text : Port → List ℕ
 port_text Video = codes "video"

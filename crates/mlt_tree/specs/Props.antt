@@ -2,6 +2,7 @@
 use Rattle.std.specs.Prelude.{ℕ, ◌+◌, ◌&&◌, Bool, true, false, nat_le, if◌then◌else◌, ℤ, pos, negsuc, neg_ℤ, List, fold, Option, None, Some, Result, Ok}
 use Rattle.std.specs.Str.{bytes_eq}
 use Rattle.mlt_base.specs.Name.{name_of}
+use Rattle.mlt_base.specs.Profile.{Measures}
 use Rattle.mlt_base.specs.Time.{time}
 use Rattle.mlt_base.specs.Whole.{whole}
 use Rattle.mlt_tree.specs.declared.group.Prop.{Prop}
@@ -9,12 +10,11 @@ use Rattle.mlt_tree.specs.declared.refusal.Cause.TheVariants.{BadValue, OutOfRan
 use Rattle.mlt_tree.specs.declared.refusal.Refusal.{Refusal}
 use Rattle.mlt_tree.specs.declared.row.Count.{Count}
 use Rattle.mlt_tree.specs.declared.row.Number.{Number}
-use Rattle.mlt_tree.specs.declared.row.Size.{Size}
+use Rattle.mlt_tree.specs.declared.row.Distance.{Distance}
 use Rattle.mlt_tree.specs.declared.row.Choice.{Choice}
 use Rattle.mlt_tree.specs.declared.row.Moment.{Moment}
 use Rattle.mlt_base.specs.Steps.{◌>>=◌}
 use Rattle.mlt_tree.specs.Refusing.{refuse, at_word}
-use Rattle.mlt_tree.specs.Show.{Fraction}
 
 -- this property, where it has the name, else the one found before
 abbrev pub later : List ℕ → Option Prop → Prop → Option Prop
@@ -44,18 +44,18 @@ unfoldable pub counted : ℕ → ℕ → ℕ → List ℕ → Result ℕ Refusal
 counted low high place text = at_word place (whole text) >>= within low high place
 
 -- how far a whole number is from 0, at most high
-abbrev pub size_within : ℕ → ℕ → ℤ → Result ℕ Refusal
-size_within high place (pos n) =
+abbrev pub distance_within : ℕ → ℕ → ℤ → Result ℕ Refusal
+distance_within high place (pos n) =
     if nat_le n high then Ok n else refuse place (OutOfRange (pos n) (neg_ℤ (pos high)) (pos high))
-size_within high place (negsuc n) =
+distance_within high place (negsuc n) =
     if nat_le (n + 1) high then Ok (n + 1) else refuse place (OutOfRange (negsuc n) (neg_ℤ (pos high)) (pos high))
 
-unfoldable pub sized : ℕ → ℕ → List ℕ → Result ℕ Refusal
-sized high place text = at_word place (whole text) >>= size_within high place
+unfoldable pub distant : ℕ → ℕ → List ℕ → Result ℕ Refusal
+distant high place text = at_word place (whole text) >>= distance_within high place
 
--- a position at this rate
-unfoldable pub timed : Fraction → ℕ → List ℕ → Result ℕ Refusal
-timed rate place text = at_word place (time rate.num rate.den text)
+-- a position, in this profile
+unfoldable pub timed : Measures → ℕ → List ℕ → Result ℕ Refusal
+timed profile place text = at_word place (time profile.num profile.den text)
 
 -- the first word of a row or the second: whether it is the second
 abbrev pub chosen : Choice → ℕ → List ℕ → Result Bool Refusal
@@ -73,17 +73,17 @@ abbrev pub number : Number → List Prop → Result (Option ℕ) Refusal
 number row props = read_given (counted row.low row.high) (last_named (name_of row.name) props)
 
 -- a distance from 0, or 0
-abbrev pub size : Size → List Prop → Result ℕ Refusal
-size row props = read_prop (sized row.high) 0 (last_named (name_of row.name) props)
+abbrev pub distance : Distance → List Prop → Result ℕ Refusal
+distance row props = read_prop (distant row.high) 0 (last_named (name_of row.name) props)
 
 -- whether it is the second of two words
 abbrev pub choice : Choice → List Prop → Result Bool Refusal
 choice row props = read_prop (chosen row) false (last_named (name_of row.name) props)
 
--- a position at this rate, where it is given
-abbrev pub moment : Moment → Fraction → List Prop → Result (Option ℕ) Refusal
-moment row rate props = read_given (timed rate) (last_named (name_of row.name) props)
+-- a position, where it is given
+abbrev pub moment : Moment → Measures → List Prop → Result (Option ℕ) Refusal
+moment row profile props = read_given (timed profile) (last_named (name_of row.name) props)
 
--- a position at this rate, or the first
-abbrev pub moment_or_first : Moment → Fraction → List Prop → Result ℕ Refusal
-moment_or_first row rate props = read_prop (timed rate) 0 (last_named (name_of row.name) props)
+-- a position, or the first
+abbrev pub moment_or_first : Moment → Measures → List Prop → Result ℕ Refusal
+moment_or_first row profile props = read_prop (timed profile) 0 (last_named (name_of row.name) props)

@@ -4,8 +4,6 @@ use Rattle.std.specs.List.{list_any}
 use Rattle.std.specs.Option.{option_map}
 use Rattle.std.specs.Str.{bytes_eq}
 use Rattle.mlt_base.specs.declared.faults.WordFault.{WordFault}
-use Rattle.mlt_base.specs.declared.faults.WordCause.{WordCause}
-use Rattle.mlt_base.specs.declared.faults.WordCause.TheVariants as word
 use Rattle.mlt_base.specs.declared.port.Port.{Port}
 use Rattle.mlt_base.specs.declared.port.Port.TheVariants.{Text}
 use Rattle.mlt_base.specs.declared.table.TheConstants.{PROFILES}
@@ -14,16 +12,15 @@ use Rattle.mlt_tree.specs.declared.group.GroupKind.{GroupKind}
 use Rattle.mlt_tree.specs.declared.group.GroupKind.TheVariants as kind
 use Rattle.mlt_tree.specs.declared.query.QueryKind.{QueryKind}
 use Rattle.mlt_tree.specs.declared.query.QueryKind.TheVariants.{Producers, Filters, Transitions, Consumers, Profiles}
-use Rattle.mlt_tree.specs.declared.refusal.Cause.{Cause}
 use Rattle.mlt_tree.specs.declared.refusal.Cause.TheVariants as cause
 use Rattle.mlt_tree.specs.declared.refusal.Refusal.{Refusal}
 use Rattle.mlt_tree.specs.declared.services.TheConstants.{PRODUCERS, CONSUMERS, FILTERS, MERGES}
 use Rattle.mlt_tree.specs.Composing.{show_of}
 use Rattle.mlt_tree.specs.Loading.{Files, no_files, Load, Stop, Read, done, plainly, ◌>>=◌}
 use Rattle.mlt_tree.specs.Meaning.{or_under}
-use Rattle.mlt_tree.specs.Refusing.{refuse, known, over}
+use Rattle.mlt_tree.specs.Refusing.{refuse, or_refuse, over, word_cause}
 use Rattle.mlt_tree.specs.Services.{listed}
-use Rattle.mlt_tree.specs.Show.{Show, output_of, prefix, written_frames}
+use Rattle.mlt_tree.specs.Show.{Show, written_name, prefix, written_frames}
 use Rattle.mlt_tree.specs.Table.{is_kind}
 use Rattle.mlt_tree.specs.Words.{groups}
 
@@ -51,7 +48,7 @@ query_named text =
     if bytes_eq text (codes "producers") then Some Producers else (if bytes_eq text (codes "filters") then Some Filters else (if bytes_eq text (codes "transitions") then Some Transitions else (if bytes_eq text (codes "consumers") then Some Consumers else (if bytes_eq text (codes "profiles") then Some Profiles else None))))
 
 abbrev pub query_again : Option QueryKind → Group → Result (Option QueryKind) Refusal
-query_again None g = known g.place cause.BadValue (option_map Some (query_named g.arg))
+query_again None g = or_refuse g.place cause.BadValue (option_map Some (query_named g.arg))
 query_again (Some asked) g = refuse g.place (cause.TooMany 1)
 
 -- the first `-query` counts, and a second is refused
@@ -81,15 +78,8 @@ abbrev pub job_of : Files → ℕ → List Group → Read Job
 job_of files count gs =
     if list_any (is_of kind.Version) gs then done (Print Version) else (if list_any (is_of kind.Query) gs then query_read (over query_step None gs) else play_unless files count gs (later_job gs))
 
-abbrev pub cause_of : WordCause → Cause
-cause_of word.UnknownOption = cause.UnknownOption
-cause_of word.Unsupported = cause.Unsupported
-cause_of word.MissingArgument = cause.MissingArgument
-cause_of word.StrayProperty = cause.StrayProperty
-cause_of (word.TooMany limit) = cause.TooMany limit
-
 abbrev pub groups_read : Result (List Group) WordFault → Result (List Group) Refusal
-groups_read (Err fault) = refuse fault.place (cause_of fault.cause)
+groups_read (Err fault) = refuse fault.place (word_cause fault.cause)
 groups_read (Ok gs) = Ok gs
 
 -- the words read, with these files: the first fault of the words themselves, then what the groups ask for
@@ -127,7 +117,7 @@ written_of show port (Some name) =
 
 -- the outputs that are created, each with its name and its bytes
 abbrev pub written : Reading → Port → Option Written
-written (Ok (Play show)) port = written_of show port (output_of show port)
+written (Ok (Play show)) port = written_of show port (written_name show port)
 written (Ok (Print job)) port = None
 written (Err stop) port = None
 

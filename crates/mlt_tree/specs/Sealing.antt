@@ -1,6 +1,8 @@
 -- The frame of a composition, and its end: its tree, whether there is something to play, and not too much of it.
 use Rattle.std.specs.Prelude.{ℕ, ◌+◌, ◌-◌, ◌*◌, ◌^◌, nat_le, nat_eq, max, if◌then◌else◌, List, [], ◌∷◌, ◌++◌, length, None, unwrap_or, Result, Ok, codes}
+use Rattle.mlt_base.specs.Profile.{Measures}
 use Rattle.mlt_base.specs.Samples.{most_samples}
+use Rattle.mlt_base.specs.declared.limits.TheConstants as limit
 use Rattle.mlt_base.specs.Steps.{◌>>=◌}
 use Rattle.mlt_tree.specs.declared.group.Group.{Group}
 use Rattle.mlt_tree.specs.declared.node.Node.{Node}
@@ -8,7 +10,7 @@ use Rattle.mlt_tree.specs.declared.refusal.Cause.TheVariants as cause
 use Rattle.mlt_tree.specs.declared.refusal.Refusal.{Refusal}
 use Rattle.mlt_tree.specs.Clips.{Cut, cut_of}
 use Rattle.mlt_tree.specs.declared.services.TheConstants as row
-use Rattle.mlt_tree.specs.Composition.{Frames, Consumer, State, profile_step, default_frames}
+use Rattle.mlt_tree.specs.Composition.{Consumer, State, profile_step, default_profile}
 use Rattle.mlt_tree.specs.Refusing.{refuse, over}
 use Rattle.mlt_tree.specs.Show.{Show, Settings, Source, Rgb, S16, pixels_of}
 use Rattle.mlt_tree.specs.Sizes.{need, weight}
@@ -19,11 +21,11 @@ use Rattle.mlt_tree.specs.Units.{tree_of, depth_of, tractor_of}
 -- ---- the profile, which the first `-profile` gives
 
 -- what is not built is refused first
-unfoldable pub framed : List Group → Result Frames Refusal
+unfoldable pub framed : List Group → Result Measures Refusal
 framed gs = do
   all ← over built_step tt gs
-  frames ← over profile_step None gs
-  Ok (unwrap_or frames default_frames)
+  profile ← over profile_step None gs
+  Ok (unwrap_or profile default_profile)
 
 -- ---- the end
 
@@ -49,12 +51,12 @@ default_consumer = record {
 }
 
 -- the bytes of one picture or of one pair's sound in a frame, whichever is more
-abbrev pub unit_of : Frames → ℕ
-unit_of frames = max (pixels_of frames.size * 4) (4 * most_samples frames.rate.num frames.rate.den)
+abbrev pub unit_of : Measures → ℕ
+unit_of profile = max (pixels_of profile * 4) (4 * most_samples profile.num profile.den)
 
 -- the bytes that a run holds at most
-abbrev pub bytes_of : Frames → Consumer → ℕ → ℕ
-bytes_of frames c need = unit_of frames * (c.buffer + (c.workers + 1) * need + c.cache)
+abbrev pub bytes_of : Measures → Consumer → ℕ → ℕ
+bytes_of profile c need = unit_of profile * (c.buffer + (c.workers + 1) * need + c.cache)
 
 -- no sound is written yet
 abbrev pub settings_of : Consumer → Cut → Settings
@@ -79,32 +81,32 @@ range_of c length = cut_of c.place length (unwrap_or c.first 0) c.last
 abbrev pub few_frames : ℕ → Cut → Result Cut Refusal
 few_frames count range =
     let frames = range.last + 1 - range.first in
-    if nat_le frames 1000000 then Ok range else refuse count (cause.TooLong frames)
+    if nat_le frames limit.MOST_WRITTEN then Ok range else refuse count (cause.TooLong frames)
 
 abbrev pub few_bytes : ℕ → ℕ → Cut → Result Cut Refusal
-few_bytes count bytes range = if nat_le bytes (2 ^ 31) then Ok range else refuse count (cause.TooLarge bytes)
+few_bytes count bytes range = if nat_le bytes limit.MOST_BYTES then Ok range else refuse count (cause.TooLarge bytes)
 
 -- something is played
 abbrev pub some_frames : ℕ → Tree → Result (Unit {0}) Refusal
 some_frames count t = if nat_eq (len t) 0 then refuse count cause.NoProducer else Ok tt
 
 abbrev pub not_deep : ℕ → (depth : ℕ) → Result (Unit {0}) Refusal
-not_deep count depth = if nat_le depth 16 then Ok tt else refuse count (cause.TooDeep depth)
+not_deep count depth = if nat_le depth limit.MOST_DEPTH then Ok tt else refuse count (cause.TooDeep depth)
 
 abbrev pub not_heavy : ℕ → Tree → Result (Unit {0}) Refusal
-not_heavy count t = if nat_le (weight t) 65536 then Ok tt else refuse count (cause.TooMany 65536)
+not_heavy count t = if nat_le (weight t) limit.MOST_WEIGHT then Ok tt else refuse count (cause.TooMany limit.MOST_WEIGHT)
 
 -- a tree on the positions that the consumer writes
-abbrev pub show_on : Frames → Consumer → List Source → Tree → Cut → Show
-show_on frames c sources t range =
-    record { size = frames.size; rate = frames.rate; sources = sources; tree = t; output = settings_of c range }
+abbrev pub show_on : Measures → Consumer → List Source → Tree → Cut → Show
+show_on profile c sources t range =
+    record { profile = profile; sources = sources; tree = t; output = settings_of c range }
 
 -- what is written of a tree: a range within it, not too many frames, not too many bytes
-unfoldable pub ranged : ℕ → Frames → Consumer → Tree → Result Cut Refusal
-ranged count frames c t = do
+unfoldable pub ranged : ℕ → Measures → Consumer → Tree → Result Cut Refusal
+ranged count profile c t = do
   range ← range_of c (len t)
   short ← few_frames count range
-  few_bytes count (bytes_of frames c (need t)) short
+  few_bytes count (bytes_of profile c (need t)) short
 
 -- a unit with frames, not nested too deep, not too heavy
 unfoldable pub sealable : ℕ → List Node → (top : ℕ) → Result (Unit {0}) Refusal
@@ -116,8 +118,8 @@ sealable count units top = do
 -- a tree at the end of so many words, on the positions that the consumer writes
 unfoldable pub show_of_tree : ℕ → State → Tree → Result Show Refusal
 show_of_tree count s t = do
-  range ← ranged count s.frames (unwrap_or s.consumer default_consumer) t
-  Ok (show_on s.frames (unwrap_or s.consumer default_consumer) s.made.sources t range)
+  range ← ranged count s.profile (unwrap_or s.consumer default_consumer) t
+  Ok (show_on s.profile (unwrap_or s.consumer default_consumer) s.made.sources t range)
 
 -- at the end of so many words
 unfoldable pub seal : ℕ → State → Result Show Refusal

@@ -3,7 +3,7 @@ use Rattle.std.specs.Prelude.{ℕ, ◌++◌, Bool, true, false, if◌then◌else
 use Rattle.std.specs.List.{ends_with, flat_map}
 use Rattle.std.specs.Option.{option_map}
 use Rattle.std.specs.Str.{bytes_eq}
-use Rattle.mlt_base.specs.Cut.{cut}
+use Rattle.mlt_base.specs.SplitOnce.{split_once}
 use Rattle.mlt_base.specs.Name.{name_of}
 use Rattle.mlt_base.specs.declared.name.Name.{Name}
 use Rattle.mlt_tree.specs.declared.services.Producer.{Producer}
@@ -61,7 +61,7 @@ stands_alone (Some Melt) = false
 -- the producer that a word names: `id:arg`, else a file by its ending; a colour's id may stand alone
 abbrev pub producer_of : List ℕ → Option Named
 producer_of word =
-    if stands_alone (producer_named word) then Some (record { producer = Colour; arg = [] }) else or_file word (by_id (cut 58 word))
+    if stands_alone (producer_named word) then Some (record { producer = Colour; arg = [] }) else or_file word (by_id (split_once 58 word))
 
 -- the text of a colour, `black` where it is empty
 abbrev pub colour_name : List ℕ → List ℕ
@@ -81,4 +81,4 @@ raw_by_id (Some parts) = if bytes_eq parts.0 (name_of RAW) then Some (output_nam
 
 -- the name of the output of the consumer `raw`, where a word names that
 abbrev pub raw_of : List ℕ → Option (List ℕ)
-raw_of word = if bytes_eq word (name_of RAW) then Some (codes "-") else raw_by_id (cut 58 word)
+raw_of word = if bytes_eq word (name_of RAW) then Some (codes "-") else raw_by_id (split_once 58 word)

@@ -1,6 +1,7 @@
 -- What is played, and the bytes that it gives.
 use Rattle.std.specs.Prelude.{ℕ, ◌+◌, ◌-◌, ◌*◌, zero, suc, List, [], ◌++◌, length, Option, None, Some, unwrap_or, slice_get}
 use Rattle.mlt_base.specs.Colour.{Pixel}
+use Rattle.mlt_base.specs.Profile.{Measures}
 use Rattle.mlt_base.specs.declared.port.Port.{Port}
 use Rattle.mlt_base.specs.declared.port.Port.TheVariants.{Video, Audio, Script, Text}
 use Rattle.mlt_tree.specs.declared.tree.SourceKind.{SourceKind}
@@ -10,16 +11,6 @@ use Rattle.mlt_tree.specs.Medium.{Pictures}
 use Rattle.mlt_tree.specs.Needs.{needs}
 use Rattle.mlt_tree.specs.Picture.{plain, clear, over_black}
 use Rattle.mlt_tree.specs.Tree.{Tree}
-
--- the width and height of a frame, in pixels
-pub record Size : Type 0 where
-  pub width : ℕ
-  pub height : ℕ
-
--- frames a second, as a fraction
-pub record Fraction : Type 0 where
-  pub num : ℕ
-  pub den : ℕ
 
 -- what a source holds
 pub data Source : Type 0 where
@@ -63,37 +54,37 @@ pub record Settings : Type 0 where
   pub channels : ℕ
   pub format : Format
 
--- a composition with its sources, the frames' size and rate, and the output settings
+-- a composition with its profile, its sources and the output settings
 pub record Show : Type 0 where
-  pub size : Size
-  pub rate : Fraction
+  pub profile : Measures
   pub sources : List Source
   pub tree : Tree
   pub output : Settings
 
-abbrev pub pixels_of : Size → ℕ
-pixels_of size = size.width * size.height
+-- how many pixels a frame has
+abbrev pub pixels_of : Measures → ℕ
+pixels_of profile = profile.width * profile.height
 
--- the picture of a source at this size
-abbrev pub source_picture : Size → Source → List ℕ
-source_picture size (Plain p) = plain (pixels_of size) p
+-- the picture of a source in a profile
+abbrev pub source_picture : Measures → Source → List ℕ
+source_picture profile (Plain p) = plain (pixels_of profile) p
 
 -- the picture of a source by its number, the same at every position; nothing is drawn for a missing one
-abbrev pub picture_of : Size → Option Source → List ℕ
-picture_of size None = clear (pixels_of size)
-picture_of size (Some source) = source_picture size source
+abbrev pub picture_of : Measures → Option Source → List ℕ
+picture_of profile None = clear (pixels_of profile)
+picture_of profile (Some source) = source_picture profile source
 
 -- what pictures are made of. Filters and merges come with their formulas: no show that is played has one yet
 abbrev pub pictures : Show → Matter (List ℕ)
 pictures show = record {
-  source = λ source n. picture_of show.size (slice_get show.sources source);
+  source = λ source n. picture_of show.profile (slice_get show.sources source);
   filter = λ step picture. picture;
   merge = λ step under picture. picture;
 }
 
 -- the picture of a position, nothing counting as transparent black
 abbrev pub picture_at : Show → ℕ → List ℕ
-picture_at show n = unwrap_or (mean Pictures (pictures show) show.tree n) (clear (pixels_of show.size))
+picture_at show n = unwrap_or (mean Pictures (pictures show) show.tree n) (clear (pixels_of show.profile))
 
 -- a picture as it is written
 abbrev pub packed : Pix → List ℕ → List ℕ
@@ -107,11 +98,11 @@ video_of show n = packed show.output.pix (picture_at show n)
 -- ---- what is written, by port
 
 -- the name of each output that a show writes
-abbrev pub output_of : Show → Port → Option (List ℕ)
-output_of show Video = Some show.output.video
-output_of show Audio = show.output.audio
-output_of show Script = None
-output_of show Text = None
+abbrev pub written_name : Show → Port → Option (List ℕ)
+written_name show Video = Some show.output.video
+written_name show Audio = show.output.audio
+written_name show Script = None
+written_name show Text = None
 
 -- what a position gives to an output; sound comes later, and no show that is played has it yet
 abbrev pub piece : Show → Port → ℕ → List ℕ

@@ -6,7 +6,7 @@ use Rattle.mlt_base.specs.Steps.{◌>>=◌}
 use Rattle.mlt_base.specs.declared.faults.WordFault.{WordFault}
 use Rattle.mlt_base.specs.declared.faults.WordCause.{WordCause}
 use Rattle.mlt_base.specs.declared.faults.WordCause.TheVariants.{UnknownOption, Unsupported, MissingArgument, StrayProperty, TooMany}
-use Rattle.mlt_tree.specs.declared.group.TheConstants.{MOST_WORDS}
+use Rattle.mlt_base.specs.declared.limits.TheConstants.{MOST_WORDS}
 use Rattle.mlt_tree.specs.declared.group.Group.{Group}
 use Rattle.mlt_tree.specs.declared.group.GroupKind.{GroupKind}
 use Rattle.mlt_tree.specs.declared.group.GroupKind.TheVariants.{Producer}

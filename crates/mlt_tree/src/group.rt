@@ -3,9 +3,6 @@
 use crate::lists::PropList;
 use mlt_base::Text;
 
-/// More words than this are refused.
-pub const MOST_WORDS: u32 = 10_000;
-
 /// Which option a group belongs to, or that it is a producer. `table.rt` has the word of each.
 #[derive(Clone, Copy, Debug, PartialEq, Eq)]
 pub enum GroupKind {

@@ -2,9 +2,10 @@
 
 ghost use Rattle.std.specs.Prelude.{◌≡◌};
 ghost use Rattle.mlt_base.specs.declared.refusal.Try.TheVariants.{Fault};
-ghost use Rattle.mlt_tree.specs.Refusing.{refusal_at};
+ghost use Rattle.mlt_tree.specs.declared.refusal.Cause.TheVariants.{BadNumber as BadNumberOf};
+ghost use Rattle.mlt_tree.specs.Refusing.{refusal_at, edit_cause, word_cause};
 
-use mlt_base::{NumFault, Try};
+use mlt_base::{NumFault, PlayFault, Try, WordCause, WordFault};
 
 /// The cause of a refusal, with its numbers. `specs/Lines.antt` has the text of each.
 #[derive(Clone, Copy, Debug, PartialEq, Eq)]
@@ -45,6 +46,51 @@ pub enum Cause {
     TooLarge { bytes: u64 },
 }
 
+impl From<NumFault> for Cause {
+    ghost from_gives = { λ fault cause. cause ≡ BadNumberOf fault };
+
+    fn from(fault: NumFault) -> Cause {
+        Cause::BadNumber(fault)
+    }
+}
+
+impl From<PlayFault> for Cause {
+    ghost from_gives = { λ fault cause. cause ≡ edit_cause fault };
+
+    fn from(fault: PlayFault) -> Cause {
+        match fault {
+            PlayFault::BadClip { index, count } => Cause::BadClip { index, count },
+            PlayFault::BadSplit { at, frames } => Cause::BadSplit { at, frames },
+            PlayFault::BadRange {
+                first,
+                last,
+                length,
+            } => Cause::BadRange {
+                first,
+                last,
+                length,
+            },
+            PlayFault::TooFew { asked, there } => Cause::TooFew { asked, there },
+            PlayFault::TooMany { limit } => Cause::TooMany { limit },
+            PlayFault::TooLong { frames } => Cause::TooLong { frames },
+        }
+    }
+}
+
+impl From<WordCause> for Cause {
+    ghost from_gives = { λ word cause. cause ≡ word_cause word };
+
+    fn from(cause: WordCause) -> Cause {
+        match cause {
+            WordCause::UnknownOption => Cause::UnknownOption,
+            WordCause::Unsupported => Cause::Unsupported,
+            WordCause::MissingArgument => Cause::MissingArgument,
+            WordCause::StrayProperty => Cause::StrayProperty,
+            WordCause::TooMany(limit) => Cause::TooMany { limit },
+        }
+    }
+}
+
 /// A refusal of a list of words, with nothing created.
 ///
 /// `word` is the place of the refused word, counted from 0, or the number of words where they end too
@@ -66,6 +112,14 @@ impl Refusal {
             inner: None,
             cause,
         }
+    }
+}
+
+impl From<WordFault> for Refusal {
+    ghost from_gives = { λ fault refusal. refusal ≡ refusal_at fault.place (word_cause fault.cause) };
+
+    fn from(fault: WordFault) -> Refusal {
+        Refusal::at(fault.place, Cause::from(fault.cause))
     }
 }
 

@@ -21,7 +21,7 @@ pub struct Number {
 
 /// A whole number whose distance from 0 counts, at most `high`; 0 by default.
 #[derive(Clone, Copy, Debug)]
-pub struct Size {
+pub struct Distance {
     pub name: Name,
     pub high: u32,
 }
@@ -45,7 +45,7 @@ pub struct Moment {
 pub enum Property {
     Count(Count),
     Number(Number),
-    Size(Size),
+    Distance(Distance),
     Choice(Choice),
     Moment(Moment),
 }

@@ -1,7 +1,8 @@
 //! The tables of services and of their properties, which the definitions and the code that reads words share.
 
-use crate::row::{Choice, Count, Moment, Number, Property, Size};
+use crate::row::{Choice, Count, Distance, Moment, Number, Property};
 use mlt_base::Name;
+use mlt_base::limits::MOST_FRAMES;
 
 /// The first frame of a clip, a filter, a merge or a run.
 pub const IN: Moment = Moment {
@@ -15,7 +16,7 @@ pub const OUT: Moment = Moment {
 pub const LENGTH: Number = Number {
     name: Name(*b"length       "),
     low: 1,
-    high: 2147483647,
+    high: MOST_FRAMES,
 };
 
 /// How pixels are written.
@@ -25,7 +26,7 @@ pub const PIX: Choice = Choice {
     second: Name(*b"rgba         "),
 };
 /// Threads that render, the sign aside.
-pub const REAL_TIME: Size = Size {
+pub const REAL_TIME: Distance = Distance {
     name: Name(*b"real_time    "),
     high: 16,
 };
@@ -145,7 +146,7 @@ pub const PROPERTIES: &[(&str, &[Property])] = &[
         "raw",
         &[
             Property::Choice(PIX),
-            Property::Size(REAL_TIME),
+            Property::Distance(REAL_TIME),
             Property::Count(BUFFER),
             Property::Count(SLICES),
             Property::Count(CACHE),

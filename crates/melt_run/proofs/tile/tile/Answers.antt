@@ -11,12 +11,12 @@ loop-filled-preserved c =
     let enough : more ≤ filled = omega arith in
     let room : filled + more ≤ length old = omega arith in
     let whole = c.loop-filled.invariant.whole c.loop-filled-test.true in
-    let long : length c.copy_first.new.bytes ≡ length old = length_more pixel old c.copy_first.new.bytes filled more enough room c.copy_first.ensures in
+    let long : length c.copy_front.new.bytes ≡ length old = length_more pixel old c.copy_front.new.bytes filled more enough room c.copy_front.ensures in
     record {
       some = omega arith;
       within = omega arith;
       whole = λ h. whole_more filled 12288 (length old) more (length pixel) (c.min-more.ensures ∙ ap (λ m. min m (length old - filled)) c.min.ensures) whole c.requires.block (omega arith);
-      tiled = tiled_more pixel old c.copy_first.new.bytes filled more enough room c.copy_first.ensures whole c.loop-filled.invariant.tiled;
+      tiled = tiled_more pixel old c.copy_front.new.bytes filled more enough room c.copy_front.ensures whole c.loop-filled.invariant.tiled;
     }
 
 pub returns : goal.returns

@@ -6,9 +6,9 @@ use Rattle.melt_build.specs.Clips.{wanted_view}
 use Rattle.melt_build.specs.Sources.{source_of}
 use Rattle.melt_build.proofs.state.Made.product_of.Goals as goal
 
-pub returns-in-Ok-clause-value : goal.returns-in-Ok-clause-value
-returns-in-Ok-clause-value c = λ files s group made.
+pub returns-clause-value : goal.returns-clause-value
+returns-clause-value c = λ files s group made.
     let asked = wanted_view c.args.asked in
     ap (λ from. product_of files s group from asked) c.colour_in.ensures
-    ∙ ap (λ m. done (source_made s.frames m (source_of c.colour_in.result) asked)) made
-    ∙ ap done (sym (c.in-Ok.ensures.value s.frames))
+    ∙ ap (λ m. done (source_made s.profile m (source_of c.colour_in.result) asked)) made
+    ∙ ap done (sym (c.in_ok-source_made.ensures.value s.profile))

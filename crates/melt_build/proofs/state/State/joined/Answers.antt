@@ -17,9 +17,9 @@ add_list-requires-clause-short c =
     let done = edited_done c.args.group.now.place (edit.join at c.args.n unit list) list c.join.new.self c.join.result c.in_ok-entries.entries (sym c.edited.ensures ∙ c.in_ok-entries.was) c.join.ensures in
     (joined_frames at c.args.n unit list c.join.new.self c.in_ok-entries.entries c.count.ensures.list done).1
 
-pub returns-in-Ok-clause-composed : goal.returns-in-Ok-clause-composed
-returns-in-Ok-clause-composed c =
+pub returns-clause-composed : goal.returns-clause-composed
+returns-clause-composed c =
     let list = c.last-list.result.now in let at = c.saturating_sub-at.result in let unit = c.next_id-unit.result.0 in
     let joined : List Entry = c.in_ok-entries.entries in
     let done = edited_done c.args.group.now.place (edit.join at c.args.n unit list) list c.join.new.self c.join.result joined (sym c.edited.ensures ∙ c.in_ok-entries.was) c.join.ensures in
-    joined_composed c.args.self.now c.add_list.new.self at c.args.n unit c.join.new.self joined c.requires.composed c.in-Ok.ensures.ok c.next_id-unit.ensures (subst (λ es. edit.join at c.args.n unit es ≡ Ok (joined, c.join.new.self)) c.last-list.ensures.list done)
+    joined_composed c.args.self.now c.add_list.new.self at c.args.n unit c.join.new.self joined c.requires.composed c.in_ok-add_list.ensures.ok c.next_id-unit.ensures (subst (λ es. edit.join at c.args.n unit es ≡ Ok (joined, c.join.new.self)) c.last-list.ensures.list done)

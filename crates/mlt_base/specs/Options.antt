@@ -1,0 +1,8 @@
+-- Steps that may give nothing, one after another.
+use Rattle.std.specs.Prelude.{Option}
+use Rattle.std.specs.Option.{option_and_then}
+
+-- a step that passes on that there is nothing
+infixl 10 ◌>>=◌
+abbrev pub ◌>>=◌ : {A B : Type 0} → Option A → (A → Option B) → Option B
+o >>= f = option_and_then f o
