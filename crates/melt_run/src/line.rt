@@ -1,7 +1,8 @@
 //! The line that tells a person how a run ended, written into a fixed array.
 
 ghost use Rattle.std.specs.Prelude.{◌≡◌, ◌≤◌, ◌<◌, ◌+◌, ◌*◌, ◌++◌, [], All, length, map, take, drop};
-ghost use Rattle.mlt_tree.specs.Lines.{Count, piece_text, text_of, words, cause_pieces, inner_pieces, port_text, refusal_line, sink_line, memory_line};
+ghost use Rattle.mlt_tree.specs.declared.refusal.Cause.TheVariants.{OutOfRange};
+ghost use Rattle.mlt_tree.specs.Lines.{Count, Number, piece_text, text_of, words, cause_pieces, inner_pieces, port_text, refusal_line, sink_line, memory_line};
 ghost use Rattle.melt_run.specs.Pieces.{piece_view, IsShort};
 ghost use Rattle.melt_run.specs.Status.{line_of};
 
@@ -113,6 +114,14 @@ fn count(n: u32) -> Piece
     Piece::Count(u64::from(n))
 }
 
+/// A number, as a piece.
+fn number(n: i64) -> Piece
+    ensures text { piece_view result ≡ Number n }
+    ensures short { IsShort result }
+{
+    Piece::Number(n)
+}
+
 /// Words alone.
 fn words(text: &'static str) -> [Piece; 6]
     requires { length text.now ≤ 40 }
@@ -129,12 +138,27 @@ fn words(text: &'static str) -> [Piece; 6]
     ]
 }
 
+/// The pieces of a value that is out of its range.
+fn out_of_range(value: i64, low: i64, high: i64) -> [Piece; 6]
+    ensures text { text_of (map piece_view result) ≡ text_of (cause_pieces (OutOfRange value low high)) }
+    ensures short { All IsShort result }
+{
+    [
+        number(value),
+        Piece::Words(" is outside "),
+        number(low),
+        Piece::Words(" to "),
+        number(high),
+        NOTHING,
+    ]
+}
+
 /// The pieces of a cause's text, and nothing behind them.
 fn cause_pieces(cause: Cause) -> [Piece; 6]
     ensures text { text_of (map piece_view result) ≡ text_of (cause_pieces cause) }
     ensures short { All IsShort result }
 {
-    use Piece::{Count, Number, Words};
+    use Piece::{Count, Words};
     match cause {
         Cause::UnknownOption => words("unknown option"),
         Cause::Unsupported => words("option not supported"),
@@ -143,14 +167,7 @@ fn cause_pieces(cause: Cause) -> [Piece; 6]
         Cause::UnknownService => words("unknown service"),
         Cause::BadValue => words("bad value"),
         Cause::BadNumber(_) => words("bad number"),
-        Cause::OutOfRange { value, low, high } => [
-            Number(value),
-            Words(" is outside "),
-            Number(low),
-            Words(" to "),
-            Number(high),
-            NOTHING,
-        ],
+        Cause::OutOfRange { value, low, high } => out_of_range(value, low, high),
         Cause::TooFew { asked, there } => [
             count(asked),
             Words(" wanted, "),
@@ -171,7 +188,7 @@ fn cause_pieces(cause: Cause) -> [Piece; 6]
             Words("cannot split "),
             count(frames),
             Words(" frames at "),
-            Number(at),
+            number(at),
             NOTHING,
             NOTHING,
         ],
