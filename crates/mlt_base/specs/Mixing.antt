@@ -49,14 +49,12 @@ weight a b = 255 * b + a * (255 - b)
 abbrev pub laid : ℕ → ℕ → ℕ → ℕ → ℕ → ℕ
 laid t a b x z = (z * b * 255 + x * a * (255 - b) + t / 2) / t
 
--- a channel of what is laid over: nothing where the weight is 0, else alpha or a colour
-abbrev pub laid_channel : ℕ → ℕ → ℕ → ℕ → ℕ → ℕ → ℕ
-laid_channel t channel a b x z = if t == 0 then 0 else (if channel == 3 then (t + 127) / 255 else laid t a b x z)
-
--- byte k where alpha a lies below and alpha b above
-abbrev pub laid_byte : ℕ → ℕ → List ℕ → List ℕ → ℕ → ℕ
-laid_byte a b xs zs k = laid_channel (weight a b) (k % 4) a b (slice_index xs k) (slice_index zs k)
+-- a channel where alpha a lies below and alpha b above: nothing where the weight is 0, else alpha or a colour
+abbrev pub laid_channel : ℕ → ℕ → ℕ → ℕ → ℕ → ℕ
+laid_channel channel a b x z =
+    if weight a b == 0 then 0 else (if channel == 3 then (weight a b + 127) / 255 else laid (weight a b) a b x z)
 
 -- byte k of a picture xs with zs laid over it at an opacity
 abbrev pub laid_over : ℕ → List ℕ → List ℕ → ℕ → ℕ
-laid_over opacity xs zs k = laid_byte (alpha_at xs k) (strength (alpha_at zs k) opacity) xs zs k
+laid_over opacity xs zs k =
+    laid_channel (k % 4) (alpha_at xs k) (strength (alpha_at zs k) opacity) (slice_index xs k) (slice_index zs k)

@@ -1,5 +1,5 @@
 -- The four bytes of a word.
-use Rattle.std.proofs.Common.{◌≡◌, ℕ, ◌+◌, ◌*◌, ◌/◌, ◌%◌, ◌<◌, ◌^◌, List, [], ◌∷◌, arith}
+use Rattle.std.proofs.Common.{◌≡◌, ℕ, ◌+◌, ◌/◌, ◌%◌, ◌<◌, ◌^◌, [], ◌∷◌, arith}
 
 -- the digits of a word to the base 256, as std's bytes of a lane say them
 pub digits_are : (w : ℕ) → w < 2 ^ 32

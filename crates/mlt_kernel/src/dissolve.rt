@@ -26,12 +26,12 @@ fn dissolve_partly(dst: &mut [u8], src: &[u8], q: u16, p: u16)
     ensures { dst.new ≡ table (length dst.old) (dissolved q dst.old src.now) }
 {
     for i in 0..dst.len() {
-        dst[i] = mix(dst[i], src[i], q, p);
+        dst[i] = mixed(q, p, dst[i], src[i]);
     }
 }
 
 /// A byte of both: the lesser one, and of the gap to the other one the share that is its own.
-fn mix(x: u8, z: u8, q: u16, p: u16) -> u8
+fn mixed(q: u16, p: u16, x: u8, z: u8) -> u8
     requires { p + q ≡ 65536 }
     ensures { result ≡ mixed q x z }
 {

@@ -6,7 +6,7 @@
 ghost use Rattle.std.specs.Prelude.{◌≡◌, ◌+◌, ◌/◌, ◌%◌, ◌≤◌, length, slice_index};
 ghost use Rattle.mlt_kernel.specs.Words.{word_of, four};
 
-use std::simd::{u32x1, u8x4};
+use std::simd::{u8x4, u32x1};
 
 /// A pixel with straight alpha, each channel 0 to 255.
 #[derive(Clone, Copy, Debug, PartialEq, Eq)]
@@ -33,7 +33,9 @@ pub fn put_word(xs: &mut [u8], at: usize, word: u32)
     requires { at + 4 ≤ length xs.old }
     ensures { xs.new ≡ four xs.old at (word % 256) (word / 256 % 256) (word / 65536 % 256) (word / 16777216) }
 {
-    u32x1::from_array([word]).to_le_bytes().copy_to_slice(&mut xs[at..]);
+    u32x1::from_array([word])
+        .to_le_bytes()
+        .copy_to_slice(&mut xs[at..]);
 }
 
 /// The pixel whose bytes stand from `at` on.

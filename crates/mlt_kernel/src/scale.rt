@@ -12,7 +12,7 @@ const GREATEST: u32 = 16777216;
 /// Multiplies each colour by `level`, to the nearest whole number and at most 255; alpha stays. The
 /// slice has four bytes a pixel.
 pub fn scale(dst: &mut [u8], level: Q16)
-    requires { length dst.old % 4 ≡ 0 }
+    requires whole { length dst.old % 4 ≡ 0 }
     ensures { dst.new ≡ table (length dst.old) (scaled level.0 dst.old) }
 {
     if level.0 != 65536 {
@@ -28,16 +28,21 @@ fn scale_each(dst: &mut [u8], level: u32)
 {
     for p in 0..dst.len() / 4 {
         let old = pixel_at(dst, p * 4);
-        let red = light(old.r, level);
-        let green = light(old.g, level);
-        let blue = light(old.b, level);
-        let new = Pixel { r: red, g: green, b: blue, a: old.a };
+        let red = lit(level, old.r);
+        let green = lit(level, old.g);
+        let blue = lit(level, old.b);
+        let new = Pixel {
+            r: red,
+            g: green,
+            b: blue,
+            a: old.a,
+        };
         put_pixel(dst, p * 4, new);
     }
 }
 
 /// A colour at a level.
-fn light(colour: u8, level: u32) -> u8
+fn lit(level: u32, colour: u8) -> u8
     requires { level ≤ 16777216 }
     ensures { result ≡ lit level colour }
 {

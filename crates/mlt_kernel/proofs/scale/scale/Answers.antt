@@ -1,4 +1,4 @@
-use Rattle.std.proofs.Common.{ℕ, length, refl, ap, ◌∙◌, arith}
+use Rattle.std.proofs.Common.{length, refl, ◌∙◌, arith}
 use Rattle.std.proofs.lemmas.List.FromFn.{fill_by_all}
 use Rattle.mlt_base.specs.Mixing.{scaled}
 use Rattle.mlt_kernel.proofs.Levels.{scaled_same, scaled_held}
