@@ -16,6 +16,7 @@ colour_is : (t a b x z v : ℕ) → 0 < t → v ≡ laid t a b x z → v ≡ (if
 colour_is zero a b x z v h e = absurd (omega arith)
 colour_is (suc t) a b x z v h e = rw (eqb-suc-zero t) e
 
+-- a colour under a clear one
 under_clear : (a x z : ℕ) → 0 < a → x ≡ laid (weight a 0) a 0 x z
 under_clear a x z h = laid_is (weight a 0) a 0 x z x (omega arith) (omega arith)
 
@@ -23,9 +24,11 @@ under_clear a x z h = laid_is (weight a 0) a 0 x z x (omega arith) (omega arith)
 pub under : (a b x z : ℕ) → b ≡ 0 → 0 < a → x ≡ (if weight a b == 0 then 0 else laid (weight a b) a b x z)
 under a b x z e h = rw e (colour_is (weight a 0) a 0 x z x (omega arith) (under_clear a x z h))
 
+-- a colour over a clear one
 over_clear : (b x z : ℕ) → 0 < b → z ≡ laid (weight 0 b) 0 b x z
 over_clear b x z h = laid_is (weight 0 b) 0 b x z z (omega arith) (omega arith)
 
+-- an opaque colour over any
 opaque_over : (a x z : ℕ) → z ≡ laid (weight a 255) a 255 x z
 opaque_over a x z = laid_is (weight a 255) a 255 x z z (omega arith) (omega arith)
 

@@ -51,6 +51,7 @@ put_done F xs ys low i a b c d e le before ea eb ec ed k above below =
 
 -- ---- as std's store of lanes says it
 
+-- byte j of the four
 four_within : (xs : List ℕ) (i a b c d j : ℕ) → i + 4 ≤ length xs → j < 4 → get_or (four xs i a b c d) (i + j) 0 ≡ get_or (a ∷ b ∷ c ∷ d ∷ []) j 0
 four_within xs i a b c d zero le lt = ap (λ k. get_or (four xs i a b c d) k 0) (omega arith) ∙ (four_at xs i a b c d le).0
 four_within xs i a b c d (suc zero) le lt = (four_at xs i a b c d le).1
@@ -58,6 +59,7 @@ four_within xs i a b c d (suc (suc zero)) le lt = (four_at xs i a b c d le).2
 four_within xs i a b c d (suc (suc (suc zero))) le lt = (four_at xs i a b c d le).3
 four_within xs i a b c d (suc (suc (suc (suc j)))) le lt = absurd (omega arith)
 
+-- a byte that isn't before the four lanes is the same in both
 stored_from : (xs : List ℕ) (i a b c d k : ℕ) → i + 4 ≤ length xs → i ≤ k → (k < i + 4) ⊎ (i + 4 ≤ k)
     → get_or (put_chunk i xs (a ∷ b ∷ c ∷ d ∷ [])) k 0 ≡ get_or (four xs i a b c d) k 0
 stored_from xs i a b c d k le from (inl lt) =
@@ -65,6 +67,7 @@ stored_from xs i a b c d k le from (inl lt) =
     rw place (get_or-put_chunk_at i xs (a ∷ b ∷ c ∷ d ∷ []) (k - i) 0 (omega arith) le ∙ sym (four_within xs i a b c d (k - i) le (omega arith)))
 stored_from xs i a b c d k le from (inr past) = get_or-put_chunk_above i xs (a ∷ b ∷ c ∷ d ∷ []) k 0 past ∙ sym (four_other xs i a b c d k (inr past))
 
+-- and so is any byte
 stored : (xs : List ℕ) (i a b c d k : ℕ) → i + 4 ≤ length xs → (k < i) ⊎ (i ≤ k)
     → get_or (put_chunk i xs (a ∷ b ∷ c ∷ d ∷ [])) k 0 ≡ get_or (four xs i a b c d) k 0
 stored xs i a b c d k le (inl lt) = get_or-put_chunk_below i xs (a ∷ b ∷ c ∷ d ∷ []) k 0 lt ∙ sym (four_other xs i a b c d k (inl lt))
