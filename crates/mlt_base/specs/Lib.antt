@@ -17,3 +17,4 @@ pub mod Grammar
 pub mod Samples
 pub mod Span
 pub mod Steps
+pub mod Mixing
