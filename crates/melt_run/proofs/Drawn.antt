@@ -2,7 +2,7 @@
 use Rattle.std.proofs.Common.{ℕ, ◌≡◌, List, Option, None, Some, unwrap_or, option_map, slice_get, refl, sym, ap, ◌∙◌}
 use Rattle.mlt_base.specs.Colour.{Pixel}
 use Rattle.mlt_base.specs.Profile.{Measures}
-use Rattle.mlt_tree.specs.Picture.{plain, clear}
+use Rattle.mlt_base.specs.Picture.{plain, clear}
 use Rattle.mlt_tree.specs.Show.{Show, Source, Plain, video_of, packed, pictures, picture_of, pixels_of}
 use Rattle.mlt_tree.specs.Unbuilt.{IsPlain}
 use Rattle.melt_run.specs.Seen.{seen}

@@ -2,7 +2,7 @@
 use Rattle.std.proofs.Common.{ℕ, ◌≡◌, zero, suc, List, [], ◌∷◌, replicate, refl, ap}
 use Rattle.std.specs.List.{concat}
 use Rattle.mlt_base.specs.Colour.{Pixel}
-use Rattle.mlt_tree.specs.Picture.{plain, over_black, on_black}
+use Rattle.mlt_base.specs.Picture.{plain, over_black, on_black}
 
 -- the three bytes of a pixel that is laid over black
 abbrev pub black_bytes : Pixel → List ℕ

@@ -2,7 +2,7 @@
 
 ghost use Rattle.std.specs.Prelude.{◌≡◌, ◌≤◌, ◌*◌, length, take};
 ghost use Rattle.std.specs.Option.{option_map, option_to_list};
-ghost use Rattle.mlt_tree.specs.Picture.{on_black, plain};
+ghost use Rattle.mlt_base.specs.Picture.{on_black, plain};
 ghost use Rattle.mlt_tree.specs.Show.{video_of, packed};
 ghost use Rattle.mlt_tree.specs.Needs.{needs};
 ghost use Rattle.mlt_tree.specs.Unbuilt.{IsPlain};

@@ -11,6 +11,7 @@ pub mod Geometry
 pub mod GeometryView
 pub mod Name
 pub mod Options
+pub mod Picture
 pub mod Profile
 pub mod ProfileView
 pub mod Grammar

@@ -9,7 +9,6 @@ pub mod Loading
 pub mod Meaning
 pub mod Medium
 pub mod Needs
-pub mod Picture
 pub mod Props
 pub mod Ranges
 pub mod Reading

@@ -9,7 +9,7 @@ use Rattle.mlt_tree.specs.declared.tree.SourceKind.TheVariants.{Colour}
 use Rattle.mlt_tree.specs.Meaning.{Matter, mean}
 use Rattle.mlt_tree.specs.Medium.{Pictures}
 use Rattle.mlt_tree.specs.Needs.{needs}
-use Rattle.mlt_tree.specs.Picture.{plain, clear, over_black}
+use Rattle.mlt_base.specs.Picture.{plain, clear, over_black}
 use Rattle.mlt_tree.specs.Tree.{Tree}
 
 -- what a source holds

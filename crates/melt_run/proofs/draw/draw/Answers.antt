@@ -3,7 +3,7 @@ use Rattle.std.specs.Option.{option_to_list}
 use Rattle.std.proofs.lemmas.List.{take_at}
 use Rattle.mlt_graph.specs.Sealed.{tree}
 use Rattle.mlt_graph.specs.Show.{meant, pix_of}
-use Rattle.mlt_tree.specs.Picture.{plain}
+use Rattle.mlt_base.specs.Picture.{plain}
 use Rattle.mlt_tree.specs.Show.{packed}
 use Rattle.melt_build.specs.Sources.{pixel}
 use Rattle.melt_run.specs.Pixels.{picture_bytes}
