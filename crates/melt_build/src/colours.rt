@@ -7,6 +7,7 @@ ghost use Rattle.melt_build.specs.Sources.{pixel};
 
 use crate::sources::Colour;
 
+/// The value of a hexadecimal digit, in either case.
 fn hex(c: u8) -> Option<u8>
     ensures value { result ≡ hex c }
     ensures small { IfSome result (λ digit. digit < 16) }
@@ -19,6 +20,7 @@ fn hex(c: u8) -> Option<u8>
     }
 }
 
+/// The value of two of them.
 fn hex_byte(high: u8, low: u8) -> Option<u8>
     ensures { result ≡ hex_byte high low }
 {
@@ -27,6 +29,7 @@ fn hex_byte(high: u8, low: u8) -> Option<u8>
     Some(x * 16 + y)
 }
 
+/// The colour of RRGGBBAA.
 fn rgba(text: &[u8]) -> Option<Colour>
     ensures { option_map pixel result ≡ rgba text.now }
 {
@@ -42,6 +45,7 @@ fn rgba(text: &[u8]) -> Option<Colour>
     }
 }
 
+/// The colour of RRGGBB, or of AARRGGBB.
 fn rgb_or_argb(text: &[u8]) -> Option<Colour>
     ensures { option_map pixel result ≡ rgb_or_argb text.now }
 {
@@ -63,12 +67,14 @@ fn rgb_or_argb(text: &[u8]) -> Option<Colour>
     }
 }
 
+/// A colour that hides what lies under it.
 const fn opaque(r: u8, g: u8, b: u8) -> Colour
     ensures { result ≡ record { r = r; g = g; b = b; a = 255 } }
 {
     Colour { r, g, b, a: 255 }
 }
 
+/// The colour of a name.
 fn named(text: &str) -> Option<Colour>
     ensures { option_map pixel result ≡ named text.now }
 {

@@ -50,6 +50,7 @@ fn profile_named(found: Option<Profile>, group: &Group) -> Result<Option<Profile
     }
 }
 
+/// The first `-profile` of the groups so far.
 #[tactic(auto, unfolding(mlt_tree::specs::Composition::profile_step))]
 fn profile_step(found: Option<Profile>, group: &Group) -> Result<Option<Profile>, Refusal>
     ensures { Gives (option_map measures_of) result (profile_step_of (option_map measures_of found) group.now) }

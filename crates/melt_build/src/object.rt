@@ -87,6 +87,7 @@ impl<'a> Object<'a> {
         self.texts.get_text(name)
     }
 
+    /// Lets the properties go.
     pub fn end(self) {
         let Object { texts, words: _ } = self;
         texts.close(&mut no_file());

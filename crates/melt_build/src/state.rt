@@ -45,6 +45,7 @@ fn pix_of(rgba: bool) -> Pix
 }
 
 impl<'a> State<'a> {
+    /// Lets a composition go that is refused.
     pub(crate) fn end(self) {
         let State {
             profile: _,

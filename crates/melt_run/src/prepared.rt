@@ -88,6 +88,7 @@ fn first_query(asked: Option<QueryKind>, group: &Group) -> Result<Option<QueryKi
     }
 }
 
+/// The first question of the groups so far; a second one is refused.
 #[tactic(auto, unfolding(mlt_tree::specs::Reading::query_step))]
 fn query_step(asked: Option<QueryKind>, group: &Group) -> Result<Option<QueryKind>, Refusal>
     ensures { result ≡ meaning.query_step asked group.now }

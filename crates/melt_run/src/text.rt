@@ -36,6 +36,7 @@ fn names(asked: QueryKind) -> &'static str
     }
 }
 
+/// The text that answers a job.
 fn answer(job: TextJob) -> &'static str
     ensures { result.now ≡ meaning.job_text (job_view job) }
 {

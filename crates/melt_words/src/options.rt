@@ -21,6 +21,7 @@ pub fn option_row(word: &str) -> Option<Row>
     row_named(&OPTIONS, word.as_bytes())
 }
 
+/// The first row of a word.
 fn row_named(rows: &[Row], word: &[u8]) -> Option<Row>
     ensures { result ≡ find (is_named word.now) rows.now }
 {

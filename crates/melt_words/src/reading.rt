@@ -40,6 +40,7 @@ struct Reading {
 }
 
 impl Reading {
+    /// Before the first word.
     fn new(alloc: Global) -> Reading
         ensures { state_of result ≡ start }
     {
@@ -173,6 +174,7 @@ impl Reading {
     }
 }
 
+/// A fault of the word at a place.
 fn refused<T>(place: u32, cause: WordCause) -> Result<T, Try<WordFault>>
     ensures { result ≡ Err (Try.Fault (record { place = place; cause = cause })) }
 {

@@ -30,6 +30,7 @@ impl Text {
         })
     }
 
+    /// The text.
     pub fn as_str(&self) -> &str
         ensures { result.now ≡ self.now }
     {
@@ -59,6 +60,7 @@ impl Bytes {
         Bytes { bytes }
     }
 
+    /// The bytes.
     pub fn as_slice(&self) -> &[u8]
         ensures { result.now ≡ self.now }
     {

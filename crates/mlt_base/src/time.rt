@@ -117,6 +117,7 @@ fn behind_first<'a>(digits: &'a [u8], at: usize, bytes: &'a [u8]) -> Result<Form
     behind_hours(digits, at, bytes)
 }
 
+/// The form of a time.
 #[tactic(auto, unfolding(crate::specs::Time::form_of))]
 fn form_of(bytes: &[u8]) -> Result<Form<'_>, NumFault>
     requires { length bytes.now < 2 ^ 63 }

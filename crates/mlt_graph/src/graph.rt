@@ -155,7 +155,7 @@ impl Graph {
         Ok(Sealed::new(nodes, top, size.length, size.need, weight.ops))
     }
 
-    // Puts a unit with no filter behind the others.
+    /// Puts a unit with no filter behind the others.
     fn add(&mut self, body: Body, size: Size) -> Result<UnitId, AllocError>
         requires below { IsBodyBelow (length self.old) body }
         requires tracks { HasFewTracks body }

@@ -48,12 +48,14 @@ impl<T> ItemList<T> {
         }
     }
 
+    /// The list of these items, without a copy.
     pub fn from_vec(items: Vec<T>) -> ItemList<T>
         ensures { result ≡ items.items }
     {
         ItemList { items }
     }
 
+    /// The items, without a copy.
     pub fn into_vec(self) -> Vec<T>
         ensures { result.items ≡ self }
     {
@@ -87,6 +89,7 @@ impl<T> ItemList<T> {
         self.items.get(index)
     }
 
+    /// The items, in order.
     pub fn as_slice(&self) -> &[T]
         ensures { result.now ≡ self.now }
     {
