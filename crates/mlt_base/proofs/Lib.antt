@@ -14,3 +14,4 @@ pub mod TimeForms
 pub mod Rising
 pub mod Values
 pub mod Names
+pub mod PpmRows

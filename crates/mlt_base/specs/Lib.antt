@@ -16,3 +16,6 @@ pub mod Grammar
 pub mod Samples
 pub mod Span
 pub mod Steps
+pub mod Still
+pub mod Stop
+pub mod Ppm

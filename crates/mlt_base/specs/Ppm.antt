@@ -1,0 +1,153 @@
+-- Binary PPM pictures: which texts are one, which picture it is, and the first fault of the others.
+use Rattle.std.specs.Prelude.{◌≡◌, ℕ, ◌+◌, ◌*◌, ◌/◌, ◌%◌, ◌<◌, ◌≤◌, ◌⊎◌, Bool, true, false, min, not, List, [], ◌∷◌, ◌++◌, map, length, take, drop, slice_index, Result, Ok, Err, nat_lt, nat_le, nat_eq, codes, ◌==◌, ◌&&◌, ◌||◌, if◌then◌else◌}
+use Rattle.std.specs.List.{All, concat, range_with_len, starts_with}
+use Rattle.mlt_base.specs.declared.fault.PpmFault.{PpmFault}
+use Rattle.mlt_base.specs.declared.fault.PpmFault.TheVariants.{NotP6, BadHeader, TooLarge, Short}
+use Rattle.mlt_base.specs.Still.{Picture}
+use Rattle.mlt_base.specs.Reading.{IsNumeral, digit_count, number}
+use Rattle.mlt_base.specs.Steps.{◌>>=◌}
+
+-- ---- bytes between the numbers of a header
+
+-- space, TAB, LF, VT, FF or CR
+abbrev pub is_white : ℕ → Bool
+is_white b = b == 32 || (nat_le 9 b && nat_le b 13)
+
+-- LF or CR
+abbrev pub is_line_end : ℕ → Bool
+is_line_end b = b == 10 || b == 13
+
+-- ---- samples
+
+-- a sample from 0 to maxval as one from 0 to 255, rounded to the nearest; one above maxval counts as maxval
+abbrev pub scaled : ℕ → ℕ → ℕ
+scaled maxval v = (min v maxval * 255 + maxval / 2) / maxval
+
+-- the bytes of a sample
+abbrev pub sample_size : ℕ → ℕ
+sample_size maxval = if nat_lt maxval 256 then 1 else 2
+
+-- a sample of the raster by its number; of two bytes the first is the most significant
+abbrev pub sample : ℕ → List ℕ → ℕ → ℕ
+sample maxval raster i =
+    if nat_lt maxval 256 then slice_index raster i
+    else slice_index raster (i * 2) * 256 + slice_index raster (i * 2 + 1)
+
+-- a byte of the pixels by its number: three samples a pixel, and behind them an alpha of 255
+abbrev pub pixel_byte : ℕ → List ℕ → ℕ → ℕ
+pixel_byte maxval raster k = if k % 4 == 3 then 255 else scaled maxval (sample maxval raster (k / 4 * 3 + k % 4))
+
+-- the bytes of so many pixels
+abbrev pub pixels_of : ℕ → List ℕ → ℕ → List ℕ
+pixels_of maxval raster count = map (pixel_byte maxval raster) (range_with_len 0 (count * 4))
+
+-- the bytes that so many pixels need
+abbrev pub needed : ℕ → ℕ → ℕ
+needed maxval count = count * 3 * sample_size maxval
+
+-- ---- the grammar, said apart from any reader
+
+-- white space, or a comment from `#`, which is 35, through the end of its line
+abbrev pub IsBlank : List ℕ → Type 0
+IsBlank text =
+    ((b : ℕ) × (is_white b ≡ true) × (text ≡ b ∷ []))
+    ⊎ ((line : List ℕ) × (end : ℕ) × All (λ b. is_line_end b ≡ false) line × (is_line_end end ≡ true) × (text ≡ 35 ∷ (line ++ end ∷ [])))
+
+-- one of these or more
+abbrev pub IsSeparator : List ℕ → Type 0
+IsSeparator text = (blanks : List (List ℕ)) × (0 < length blanks) × All IsBlank blanks × (text ≡ concat blanks)
+
+-- a separator, a number, and what has to stand behind that number
+abbrev pub IsField : (ℕ → List ℕ → Type 0) → List ℕ → Type 0
+IsField Rest text =
+    (separator : List ℕ) × (digits : List ℕ) × (rest : List ℕ)
+    × IsSeparator separator × IsNumeral digits × Rest (number digits) rest × (text ≡ separator ++ (digits ++ rest))
+
+-- one byte of white space, and then the raster
+abbrev pub IsRaster : (List ℕ → Type 0) → List ℕ → Type 0
+IsRaster Rest text = (white : ℕ) × (raster : List ℕ) × (is_white white ≡ true) × Rest raster × (text ≡ white ∷ raster)
+
+-- `P6`, and width, height and maxval, each behind a separator, and the raster
+abbrev pub IsText : (ℕ → ℕ → ℕ → List ℕ → Type 0) → List ℕ → Type 0
+IsText Rest text =
+    (fields : List ℕ)
+    × IsField (λ width. IsField (λ height. IsField (λ maxval. IsRaster (Rest width height maxval)))) fields
+    × (text ≡ 80 ∷ 54 ∷ fields)
+
+-- the text has a header, whatever its numbers and its raster are
+abbrev pub HasHeader : List ℕ → Type 0
+HasHeader text = IsText (λ width height maxval raster. Unit {0}) text
+
+-- the raster has all samples of a picture
+abbrev pub IsRasterOf : Picture → ℕ → ℕ → ℕ → List ℕ → Type 0
+IsRasterOf p width height maxval raster =
+    (1 ≤ width) × (width ≤ 4096) × (1 ≤ height) × (height ≤ 4096) × (1 ≤ maxval) × (maxval ≤ 65535)
+    × (needed maxval (width * height) ≤ length raster)
+    × (p ≡ record { width = width; height = height; pixels = pixels_of maxval raster (width * height) })
+
+-- the text is this picture
+abbrev pub IsPpm : List ℕ → Picture → Type 0
+IsPpm text p = IsText (IsRasterOf p) text
+
+-- ---- reading: the picture, or the first fault
+
+-- how many bytes of white space and comments the bytes begin with, from within a comment or not
+abbrev pub blank_count : Bool → List ℕ → ℕ
+blank_count comment [] = 0
+blank_count true (b ∷ bytes) = blank_count (not (is_line_end b)) bytes + 1
+blank_count false (b ∷ bytes) =
+    if b == 35 then blank_count true bytes + 1
+    else if is_white b then blank_count false bytes + 1
+    else 0
+
+-- a number of a header, held to 65536, which is above every limit, and the place behind it
+pub record Field : Type 0 where
+  pub value : ℕ
+  pub end : ℕ
+
+-- one or more digits that begin at a place: a number from 1 to a limit
+unfoldable pub number_at : ℕ → ℕ → List ℕ → Result Field PpmFault
+number_at limit at bytes =
+    let count = digit_count bytes in
+    let value = min (number (take count bytes)) 65536 in
+    if count == 0 || value == 0 || nat_lt limit value then Err (BadHeader at)
+    else Ok (record { value = value; end = at + count })
+
+-- a separator from a place on, and such a number behind it
+unfoldable pub field_at : ℕ → ℕ → List ℕ → Result Field PpmFault
+field_at limit at bytes =
+    let count = blank_count false bytes in
+    if count == 0 then Err (BadHeader at) else number_at limit (at + count) (drop count bytes)
+
+-- one byte of white space
+unfoldable pub white_at : ℕ → List ℕ → Result (Unit {0}) PpmFault
+white_at at [] = Err (BadHeader at)
+white_at at (b ∷ bytes) = if is_white b then Ok tt else Err (BadHeader at)
+
+-- the numbers of a header, and the place where the raster begins
+pub record Header : Type 0 where
+  pub width : ℕ
+  pub height : ℕ
+  pub maxval : ℕ
+  pub end : ℕ
+
+-- what stands behind `P6`; no limit but that of a maxval is a header's
+unfoldable pub header : List ℕ → Result Header PpmFault
+header text = do
+  width ← field_at 65536 2 (drop 2 text)
+  height ← field_at 65536 width.end (drop width.end text)
+  maxval ← field_at 65535 height.end (drop height.end text)
+  white ← white_at maxval.end (drop maxval.end text)
+  Ok (record { width = width.value; height = height.value; maxval = maxval.value; end = maxval.end + 1 })
+
+-- the picture of a header and the raster behind it
+unfoldable pub picture : Header → List ℕ → Result Picture PpmFault
+picture h raster =
+    if nat_lt 4096 h.width || nat_lt 4096 h.height then Err TooLarge
+    else if nat_lt (length raster) (needed h.maxval (h.width * h.height)) then Err (Short (length raster) (needed h.maxval (h.width * h.height)))
+    else Ok (record { width = h.width; height = h.height; pixels = pixels_of h.maxval raster (h.width * h.height) })
+
+unfoldable pub ppm : List ℕ → Result Picture PpmFault
+ppm text =
+    if starts_with nat_eq text (codes "P6") then (header text >>= λ h. picture h (drop h.end text))
+    else Err NotP6
