@@ -100,21 +100,16 @@ blank_count false (b ∷ bytes) =
     else if is_white b then blank_count false bytes + 1
     else 0
 
--- a number of a header, held to 65536, which is above every limit, and the place behind it
-pub record Field : Type 0 where
-  pub value : ℕ
-  pub end : ℕ
-
--- one or more digits that begin at a place: a number from 1 to a limit
-unfoldable pub number_at : ℕ → ℕ → List ℕ → Result Field PpmFault
+-- one or more digits that begin at a place, a number from 1 to a limit: the number, held to 65536, which is above
+-- every limit, and the place behind it
+unfoldable pub number_at : ℕ → ℕ → List ℕ → Result (ℕ × ℕ) PpmFault
 number_at limit at bytes =
     let count = digit_count bytes in
     let value = min (number (take count bytes)) 65536 in
-    if count == 0 || value == 0 || nat_lt limit value then Err (BadHeader at)
-    else Ok (record { value = value; end = at + count })
+    if count == 0 || value == 0 || nat_lt limit value then Err (BadHeader at) else Ok (value, at + count)
 
 -- a separator from a place on, and such a number behind it
-unfoldable pub field_at : ℕ → ℕ → List ℕ → Result Field PpmFault
+unfoldable pub field_at : ℕ → ℕ → List ℕ → Result (ℕ × ℕ) PpmFault
 field_at limit at bytes =
     let count = blank_count false bytes in
     if count == 0 then Err (BadHeader at) else number_at limit (at + count) (drop count bytes)
@@ -125,29 +120,29 @@ white_at at [] = Err (BadHeader at)
 white_at at (b ∷ bytes) = if is_white b then Ok tt else Err (BadHeader at)
 
 -- the numbers of a header, and the place where the raster begins
-pub record Header : Type 0 where
+pub record Numbers : Type 0 where
   pub width : ℕ
   pub height : ℕ
   pub maxval : ℕ
   pub end : ℕ
 
 -- what stands behind `P6`; no limit but that of a maxval is a header's
-unfoldable pub header : List ℕ → Result Header PpmFault
+unfoldable pub header : List ℕ → Result Numbers PpmFault
 header text = do
   width ← field_at 65536 2 (drop 2 text)
-  height ← field_at 65536 width.end (drop width.end text)
-  maxval ← field_at 65535 height.end (drop height.end text)
-  white ← white_at maxval.end (drop maxval.end text)
-  Ok (record { width = width.value; height = height.value; maxval = maxval.value; end = maxval.end + 1 })
+  height ← field_at 65536 width.1 (drop width.1 text)
+  maxval ← field_at 65535 height.1 (drop height.1 text)
+  white ← white_at maxval.1 (drop maxval.1 text)
+  Ok (record { width = width.0; height = height.0; maxval = maxval.0; end = maxval.1 + 1 })
 
--- the picture of a header and the raster behind it
-unfoldable pub picture : Header → List ℕ → Result Picture PpmFault
-picture h raster =
-    if nat_lt 4096 h.width || nat_lt 4096 h.height then Err TooLarge
-    else if nat_lt (length raster) (needed h.maxval (h.width * h.height)) then Err (Short (length raster) (needed h.maxval (h.width * h.height)))
-    else Ok (record { width = h.width; height = h.height; pixels = pixels_of h.maxval raster (h.width * h.height) })
+-- the picture that the numbers of a header and the bytes behind it make
+unfoldable pub picture : Numbers → List ℕ → Result Picture PpmFault
+picture n raster =
+    if nat_lt 4096 n.width || nat_lt 4096 n.height then Err TooLarge
+    else if nat_lt (length raster) (needed n.maxval (n.width * n.height)) then Err (Short (length raster) (needed n.maxval (n.width * n.height)))
+    else Ok (record { width = n.width; height = n.height; pixels = pixels_of n.maxval raster (n.width * n.height) })
 
 unfoldable pub ppm : List ℕ → Result Picture PpmFault
 ppm text =
-    if starts_with nat_eq text (codes "P6") then (header text >>= λ h. picture h (drop h.end text))
+    if starts_with nat_eq text (codes "P6") then (header text >>= λ n. picture n (drop n.end text))
     else Err NotP6

@@ -5,7 +5,7 @@ use Rattle.mlt_base.specs.declared.fault.NumFault.{NumFault}
 use Rattle.mlt_base.specs.declared.fault.NumFault.TheVariants.{BadDigit, TooLarge}
 
 -- what a reader returned, seen by view, is what reading gives
-abbrev pub Gives : {X Y : Type 0} → (X → Y) → Result X NumFault → Result Y NumFault → Type 0
+abbrev pub Gives : {X Y F : Type 0} → (X → Y) → Result X F → Result Y F → Type 0
 Gives view (Ok x) read = read ≡ Ok (view x)
 Gives view (Err e) read = read ≡ Err e
 

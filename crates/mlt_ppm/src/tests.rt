@@ -1,0 +1,55 @@
+use super::*;
+use mlt_base::{PpmFault, Still, Try};
+use std::test::Fail;
+
+/// What a file is read as: its measures and pixels, or its fault.
+type Found<'a> = Result<(u32, u32, &'a [u8]), Try<PpmFault>>;
+
+fn found(read: &Result<Still, Try<PpmFault>>) -> Found<'_> {
+    match read {
+        Ok(still) => Ok((still.width(), still.height(), still.pixels())),
+        Err(refusal) => Err(*refusal),
+    }
+}
+
+#[test]
+fn read_rows(rt: HostRuntime) {
+    let one = |r, g, b| Ok((1, 1, [r, g, b, 255]));
+    let fault = |fault| Err(Try::Fault(fault));
+    let rows = [
+        (b"P6 1 1 255\n\x0a\x14\x1e".as_slice(), one(10, 20, 30)),
+        (b"P6#\n1#c\r1\t\x0b\x0c255\r\x0a\x14\x1eX", one(10, 20, 30)),
+        (b"P6 0001 1 0000000000000000000000002 \0\x01\x03", one(0, 128, 255)),
+        (b"P6 1 1 100 \x32\x64\x65", one(128, 255, 255)),
+        (b"P6 1 1 256 \x01\0\0\x80\x01\x01", one(255, 128, 255)),
+        (b"P6 1 1 65535 \x01\0\0\x80\xff\xff", one(1, 0, 255)),
+        (b"", fault(PpmFault::NotP6)),
+        (b"P", fault(PpmFault::NotP6)),
+        (b"P5 1 1 255 \0\0\0", fault(PpmFault::NotP6)),
+        (b"P6", fault(PpmFault::BadHeader(2))),
+        (b"P61 1 255 ", fault(PpmFault::BadHeader(2))),
+        (b"P6#c", fault(PpmFault::BadHeader(4))),
+        (b"P6 0", fault(PpmFault::BadHeader(3))),
+        (b"P6 00x", fault(PpmFault::BadHeader(3))),
+        (b"P6 x", fault(PpmFault::BadHeader(3))),
+        (b"P6 1", fault(PpmFault::BadHeader(4))),
+        (b"P6 1x", fault(PpmFault::BadHeader(4))),
+        (b"P6 5000 0 255 ", fault(PpmFault::BadHeader(8))),
+        (b"P6 1 1 0 ", fault(PpmFault::BadHeader(7))),
+        (b"P6 1 1 65536 ", fault(PpmFault::BadHeader(7))),
+        (b"P6 1 1 255", fault(PpmFault::BadHeader(10))),
+        (b"P6 1 1 255#\n", fault(PpmFault::BadHeader(10))),
+        (b"P6 4097 1 255 ", fault(PpmFault::TooLarge)),
+        (b"P6 1 123456789012345678901234567890 255 ", fault(PpmFault::TooLarge)),
+        (b"P6 4096 4096 65535 ", fault(PpmFault::Short(0, 100663296))),
+        (b"P6 1 1 255\n\x0a\x14", fault(PpmFault::Short(2, 3))),
+        (b"P6 2 1 256\n\x0a\x14", fault(PpmFault::Short(2, 12))),
+    ];
+    for (bytes, wanted) in rows {
+        let wanted = match &wanted {
+            Ok((width, height, pixels)) => Ok((*width, *height, pixels.as_slice())),
+            Err(refusal) => Err(*refusal),
+        };
+        assert_eq!(rt; found(&read(rt.alloc(), bytes)), wanted, "{bytes:?}");
+    }
+}
