@@ -15,3 +15,8 @@ pub mod Rising
 pub mod Values
 pub mod Names
 pub mod PpmRows
+pub mod PpmBlanks
+pub mod PpmCounts
+pub mod PpmFields
+pub mod PpmHeaders
+pub mod PpmForms

@@ -1,6 +1,6 @@
 -- Binary PPM pictures: which texts are one, which picture it is, and the first fault of the others.
 use Rattle.std.specs.Prelude.{◌≡◌, ℕ, ◌+◌, ◌*◌, ◌/◌, ◌%◌, ◌<◌, ◌≤◌, ◌⊎◌, Bool, true, false, min, not, List, [], ◌∷◌, ◌++◌, map, length, take, drop, slice_index, Result, Ok, Err, nat_lt, nat_le, nat_eq, codes, ◌==◌, ◌&&◌, ◌||◌, if◌then◌else◌}
-use Rattle.std.specs.List.{All, concat, range_with_len, starts_with}
+use Rattle.std.specs.List.{concat, range_with_len, starts_with}
 use Rattle.mlt_base.specs.declared.fault.PpmFault.{PpmFault}
 use Rattle.mlt_base.specs.declared.fault.PpmFault.TheVariants.{NotP6, BadHeader, TooLarge, Short}
 use Rattle.mlt_base.specs.Still.{Picture}
@@ -47,15 +47,24 @@ needed maxval count = count * 3 * sample_size maxval
 
 -- ---- the grammar, said apart from any reader
 
+-- bytes without the end of a line among them
+abbrev pub IsLine : List ℕ → Type 0
+IsLine [] = Unit {0}
+IsLine (b ∷ bytes) = (is_line_end b ≡ false) × IsLine bytes
+
 -- white space, or a comment from `#`, which is 35, through the end of its line
 abbrev pub IsBlank : List ℕ → Type 0
 IsBlank text =
     ((b : ℕ) × (is_white b ≡ true) × (text ≡ b ∷ []))
-    ⊎ ((line : List ℕ) × (end : ℕ) × All (λ b. is_line_end b ≡ false) line × (is_line_end end ≡ true) × (text ≡ 35 ∷ (line ++ end ∷ [])))
+    ⊎ ((line : List ℕ) × (end : ℕ) × IsLine line × (is_line_end end ≡ true) × (text ≡ 35 ∷ (line ++ end ∷ [])))
+
+abbrev pub AreBlank : List (List ℕ) → Type 0
+AreBlank [] = Unit {0}
+AreBlank (text ∷ texts) = IsBlank text × AreBlank texts
 
 -- one of these or more
 abbrev pub IsSeparator : List ℕ → Type 0
-IsSeparator text = (blanks : List (List ℕ)) × (0 < length blanks) × All IsBlank blanks × (text ≡ concat blanks)
+IsSeparator text = (blanks : List (List ℕ)) × (0 < length blanks) × AreBlank blanks × (text ≡ concat blanks)
 
 -- a separator, a number, and what has to stand behind that number
 abbrev pub IsField : (ℕ → List ℕ → Type 0) → List ℕ → Type 0
@@ -78,16 +87,62 @@ IsText Rest text =
 abbrev pub HasHeader : List ℕ → Type 0
 HasHeader text = IsText (λ width height maxval raster. Unit {0}) text
 
+-- a width or a height has to be at least 1
+abbrev pub IsSide : ℕ → Type 0
+IsSide n = 1 ≤ n
+
+-- and a maxval 1 to 65535
+abbrev pub IsDepth : ℕ → Type 0
+IsDepth n = (1 ≤ n) × (n ≤ 65535)
+
 -- the raster has all samples of a picture
 abbrev pub IsRasterOf : Picture → ℕ → ℕ → ℕ → List ℕ → Type 0
 IsRasterOf p width height maxval raster =
-    (1 ≤ width) × (width ≤ 4096) × (1 ≤ height) × (height ≤ 4096) × (1 ≤ maxval) × (maxval ≤ 65535)
+    IsSide width × (width ≤ 4096) × IsSide height × (height ≤ 4096) × IsDepth maxval
     × (needed maxval (width * height) ≤ length raster)
     × (p ≡ record { width = width; height = height; pixels = pixels_of maxval raster (width * height) })
 
 -- the text is this picture
 abbrev pub IsPpm : List ℕ → Picture → Type 0
 IsPpm text p = IsText (IsRasterOf p) text
+
+-- ---- texts that are no picture though their header is good
+
+-- the numbers are those that a header may have
+abbrev pub AreNumbers : ℕ → ℕ → ℕ → Type 0
+AreNumbers width height maxval = IsSide width × IsSide height × IsDepth maxval
+
+-- the picture has more pixels in a row, or more rows, than 4096
+abbrev pub IsLarge : List ℕ → Type 0
+IsLarge text = IsText (λ width height maxval raster. AreNumbers width height maxval × ((4096 < width) ⊎ (4096 < height))) text
+
+-- the raster has fewer bytes than its samples need
+abbrev pub IsShort : List ℕ → ℕ → ℕ → Type 0
+IsShort text have need =
+    IsText (λ width height maxval raster. AreNumbers width height maxval × (have ≡ length raster) × (need ≡ needed maxval (width * height)) × (have < need)) text
+
+-- ---- numbers of a header that are out of range
+
+-- behind a separator stands a number that isn't allowed, with its first digit at this place
+abbrev pub IsBad : (ℕ → Type 0) → List ℕ → ℕ → Type 0
+IsBad Allowed text at =
+    (separator : List ℕ) × (digits : List ℕ) × (rest : List ℕ)
+    × IsSeparator separator × IsNumeral digits × (digit_count rest ≡ 0) × ¬ Allowed (number digits)
+    × (text ≡ separator ++ (digits ++ rest)) × (at ≡ length separator)
+
+-- behind a separator stands a number that is allowed, and behind that such a place
+abbrev pub IsBehind : (ℕ → Type 0) → (List ℕ → ℕ → Type 0) → List ℕ → ℕ → Type 0
+IsBehind Allowed There text at =
+    (separator : List ℕ) × (digits : List ℕ) × (rest : List ℕ) × (k : ℕ)
+    × IsSeparator separator × IsNumeral digits × Allowed (number digits) × There rest k
+    × (text ≡ separator ++ (digits ++ rest)) × (at ≡ length separator + (length digits + k))
+
+-- the place of a header's first number that isn't allowed
+abbrev pub IsBadNumber : List ℕ → ℕ → Type 0
+IsBadNumber text at =
+    (fields : List ℕ) × (k : ℕ)
+    × (IsBad IsSide fields k ⊎ (IsBehind IsSide (IsBad IsSide) fields k ⊎ IsBehind IsSide (IsBehind IsSide (IsBad IsDepth)) fields k))
+    × (text ≡ 80 ∷ 54 ∷ fields) × (at ≡ 2 + k)
 
 -- ---- reading: the picture, or the first fault
 

@@ -46,6 +46,7 @@ spread_is raster from p small room j h = get_or-map (λ k. get_or (lanes raster 
   where
     at : ℕ
     at = (from + p) * 3
+
     go : (t : Bool) → eqb (j % 4) 3 ≡ t → get_or (lanes raster ((from + p) * 3)) (cond t 16 (j / 4 * 3 + j % 4)) 0 ≡ pixel_byte 255 raster (from * 4 + (p * 4 + j))
     go true e =
         let three : j % 4 ≡ 3 = eqb-true (j % 4) 3 e in

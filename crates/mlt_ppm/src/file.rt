@@ -40,10 +40,7 @@ fn picture(alloc: Global, numbers: Numbers, raster: &[u8]) -> Result<Still, Try<
     let count = numbers.width as usize * numbers.height as usize;
     let needed = count * 3 * sample_size(numbers.maxval);
     if raster.len() < needed {
-        return Err(Try::Fault(PpmFault::Short(
-            raster.len() as u64,
-            needed as u64,
-        )));
+        return Err(Try::Fault(PpmFault::Short(raster.len() as u64, needed as u64)));
     }
     let pixels = pixels(alloc, &Scale::new(numbers.maxval), raster, count)?;
     Ok(Still::new(numbers.width, numbers.height, pixels))
