@@ -5,7 +5,7 @@ use Rattle.std.specs.List.{concat}
 use Rattle.std.proofs.lemmas.Bool.{eqb-true}
 use Rattle.std.proofs.lemmas.List.{append-nil, length-take-le}
 use Rattle.mlt_base.specs.Reading.{digit_count}
-use Rattle.mlt_base.specs.Ppm.{is_white, is_line_end, IsLine, IsBlank, AreBlank, IsSeparator, blank_count}
+use Rattle.mlt_base.specs.Ppm.{is_white, is_line_end, IsLine, AreBlank, IsSeparator, blank_count}
 
 -- ---- what is counted
 

@@ -1,14 +1,13 @@
 -- A separator, a number and what stands behind it: how a text is cut into these, and where it can't go on.
-use Rattle.std.proofs.Common.{◌≡◌, ℕ, zero, suc, ◌+◌, ◌-◌, ◌<◌, ◌≤◌, inl, inr, Bool, true, false, cond, eqb, List, [], ◌∷◌, ◌++◌, length, take, drop, refl, sym, ap, subst, ◌∙◌, arith, append_assoc, length-append, length-drop}
+use Rattle.std.proofs.Common.{◌≡◌, ℕ, ◌+◌, ◌<◌, ◌≤◌, inl, false, List, [], ◌∷◌, ◌++◌, length, take, drop, refl, sym, ap, subst, ◌∙◌, arith, append_assoc, length-drop}
 use Rattle.std.proofs.Math.Seq.{take-add, take-append-add}
-use Rattle.std.proofs.lemmas.Bool.{eqb-true}
-use Rattle.std.proofs.lemmas.List.{take_at, drop_at, take-append-drop, length-take-le, drop-append-le, take-append-le, drop-take}
-use Rattle.mlt_base.specs.Reading.{AreDigits, IsNumeral, digit_count, number}
-use Rattle.mlt_base.specs.Stop.{Begins, StopsAt}
+use Rattle.std.proofs.lemmas.List.{take_at, drop_at, take-append-drop, length-take-le, drop-append-le, drop-take}
+use Rattle.mlt_base.specs.Reading.{IsNumeral, digit_count, number}
+use Rattle.mlt_base.specs.Stop.{StopsAt}
 use Rattle.mlt_base.specs.Ppm.{is_white, IsSeparator, IsField, IsRaster, blank_count}
 use Rattle.mlt_base.proofs.Forms.{digit_count-append, AreDigits-take, digit_count-le}
 use Rattle.mlt_base.proofs.PpmBlanks.{count_numeral, count_blanks, separator_some, no_digit_before, white_low, low_no_digit}
-use Rattle.mlt_base.proofs.PpmCounts.{Begun, begun, counted_separator, blank_count-le, blank_count-stable, digit_count-stable}
+use Rattle.mlt_base.proofs.PpmCounts.{begun, counted_separator, blank_count-le, blank_count-stable, digit_count-stable}
 
 -- ---- the cut of a text
 
@@ -124,11 +123,11 @@ stops_at_number Rest none_begins can text some none =
       within = blank_count-le false text;
       before = (b.more ++ 49 ∷ rest, (take c text ++ b.more, 49 ∷ [], rest, b.separator, (omega arith, (omega arith, omega arith, tt)), good, sym (append_assoc (take c text) b.more (49 ∷ rest))));
       behind = λ more_there (more, field).
-        let p = parts_of Rest none_begins (take (c + 1) text ++ more) field in
-        let count : blank_count false (take (c + 1) text ++ more) ≡ c = blank_count-stable false text (c + 1) more (omega arith) (omega arith) in
-        let left : behind (take (c + 1) text ++ more) ≡ take 1 (behind text) ++ more = ap (λ (n : ℕ). drop n (take (c + 1) text ++ more)) count ∙ drop_cut c 1 text more (omega arith) in
-        let still : digit_count (take 1 (behind text) ++ more) ≡ digit_count (behind text) = digit_count-stable (behind text) 1 more (omega arith) (omega (arith, length-drop c text)) in
-        absurd (omega (arith, p.digit, ap digit_count left, still));
+          let p = parts_of Rest none_begins (take (c + 1) text ++ more) field in
+          let count : blank_count false (take (c + 1) text ++ more) ≡ c = blank_count-stable false text (c + 1) more (omega arith) (omega arith) in
+          let left : behind (take (c + 1) text ++ more) ≡ take 1 (behind text) ++ more = ap (λ (n : ℕ). drop n (take (c + 1) text ++ more)) count ∙ drop_cut c 1 text more (omega arith) in
+          let still : digit_count (take 1 (behind text) ++ more) ≡ digit_count (behind text) = digit_count-stable (behind text) 1 more (omega arith) (omega (arith, length-drop c text)) in
+          absurd (omega (arith, p.digit, ap digit_count left, still));
       unfinished = λ field. absurd (omega (arith, (parts_of Rest none_begins text field).digit));
     }
 
@@ -142,19 +141,19 @@ stops_behind Rest none_begins text k some digit stop =
     record {
       within = omega (arith, stop.within);
       before =
-        let (more, good) = stop.before in
-        (more, (take c text, digits_in text, take k (rest_in text) ++ more, counted_separator text some (some_behind text digit), numeral_in text digit, good, whole k more));
+          let (more, good) = stop.before in
+          (more, (take c text, digits_in text, take k (rest_in text) ++ more, counted_separator text some (some_behind text digit), numeral_in text digit, good, whole k more));
       behind = λ more_there (more, field).
-        let at : c + (d + k) + 1 ≡ c + (d + (k + 1)) = omega arith in
-        let moved : IsField Rest (take (c + (d + (k + 1))) text ++ more) = subst (λ (n : ℕ). IsField Rest (take n text ++ more)) at field in
-        let p = parts_of Rest none_begins (take (c + (d + (k + 1))) text ++ more) moved in
-        let count : blank_count false (take (c + (d + (k + 1))) text ++ more) ≡ c = blank_count-stable false text (c + (d + (k + 1))) more (omega arith) (omega arith) in
-        let left : behind (take (c + (d + (k + 1))) text ++ more) ≡ take (d + (k + 1)) (behind text) ++ more = ap (λ (n : ℕ). drop n (take (c + (d + (k + 1))) text ++ more)) count ∙ drop_cut c (d + (k + 1)) text more (omega arith) in
-        let room : d + (k + 1) ≤ length (behind text) = omega (arith, length-drop c text) in
-        let still : digit_count (behind (take (c + (d + (k + 1))) text ++ more)) ≡ d = ap digit_count left ∙ digit_count-stable (behind text) (d + (k + 1)) more (omega arith) room in
-        let digits : digits_in (take (c + (d + (k + 1))) text ++ more) ≡ digits_in text = ap (λ (n : ℕ). take n (behind (take (c + (d + (k + 1))) text ++ more))) still ∙ (ap (take d) left ∙ take_cut d (k + 1) (behind text) more room) in
-        let rest : rest_in (take (c + (d + (k + 1))) text ++ more) ≡ take (k + 1) (rest_in text) ++ more = ap (λ (n : ℕ). drop n (behind (take (c + (d + (k + 1))) text ++ more))) still ∙ (ap (drop d) left ∙ drop_cut d (k + 1) (behind text) more room) in
-        stop.behind (omega (arith, more_there)) (more, subst (Rest (number (digits_in text))) rest (subst (λ (ds : List ℕ). Rest (number ds) (rest_in (take (c + (d + (k + 1))) text ++ more))) digits p.rest));
+          let at : c + (d + k) + 1 ≡ c + (d + (k + 1)) = omega arith in
+          let moved : IsField Rest (take (c + (d + (k + 1))) text ++ more) = subst (λ (n : ℕ). IsField Rest (take n text ++ more)) at field in
+          let p = parts_of Rest none_begins (take (c + (d + (k + 1))) text ++ more) moved in
+          let count : blank_count false (take (c + (d + (k + 1))) text ++ more) ≡ c = blank_count-stable false text (c + (d + (k + 1))) more (omega arith) (omega arith) in
+          let left : behind (take (c + (d + (k + 1))) text ++ more) ≡ take (d + (k + 1)) (behind text) ++ more = ap (λ (n : ℕ). drop n (take (c + (d + (k + 1))) text ++ more)) count ∙ drop_cut c (d + (k + 1)) text more (omega arith) in
+          let room : d + (k + 1) ≤ length (behind text) = omega (arith, length-drop c text) in
+          let still : digit_count (behind (take (c + (d + (k + 1))) text ++ more)) ≡ d = ap digit_count left ∙ digit_count-stable (behind text) (d + (k + 1)) more (omega arith) room in
+          let digits : digits_in (take (c + (d + (k + 1))) text ++ more) ≡ digits_in text = ap (λ (n : ℕ). take n (behind (take (c + (d + (k + 1))) text ++ more))) still ∙ (ap (take d) left ∙ take_cut d (k + 1) (behind text) more room) in
+          let rest : rest_in (take (c + (d + (k + 1))) text ++ more) ≡ take (k + 1) (rest_in text) ++ more = ap (λ (n : ℕ). drop n (behind (take (c + (d + (k + 1))) text ++ more))) still ∙ (ap (drop d) left ∙ drop_cut d (k + 1) (behind text) more room) in
+          stop.behind (omega (arith, more_there)) (more, subst (Rest (number (digits_in text))) rest (subst (λ (ds : List ℕ). Rest (number ds) (rest_in (take (c + (d + (k + 1))) text ++ more))) digits p.rest));
       unfinished = λ field. stop.unfinished (parts_of Rest none_begins text field).rest;
     }
 
@@ -178,12 +177,12 @@ pub stops_behind_p6 : (Good : List ℕ → Type 0) (text fields : List ℕ) (k :
 stops_behind_p6 Good text fields k e stop = subst (λ (t : List ℕ). StopsAt (λ text. (fields : List ℕ) × Good fields × (text ≡ 80 ∷ 54 ∷ fields)) t (2 + k)) (sym e) (record {
   within = omega (arith, stop.within);
   before =
-    let (more, good) = stop.before in
-    (more, (take k fields ++ more, good, front k more));
+      let (more, good) = stop.before in
+      (more, (take k fields ++ more, good, front k more));
   behind = λ more_there (more, (others, good, is)).
-    let same : 80 ∷ 54 ∷ (take (k + 1) fields ++ more) ≡ 80 ∷ 54 ∷ others = sym (front (k + 1) more) ∙ (ap (λ (n : ℕ). take n (80 ∷ 54 ∷ fields) ++ more) (omega arith) ∙ is) in
-    let own : take (k + 1) fields ++ more ≡ others = cc in
-    stop.behind (omega arith) (more, subst Good (sym own) good);
+      let same : 80 ∷ 54 ∷ (take (k + 1) fields ++ more) ≡ 80 ∷ 54 ∷ others = sym (front (k + 1) more) ∙ (ap (λ (n : ℕ). take n (80 ∷ 54 ∷ fields) ++ more) (omega arith) ∙ is) in
+      let own : take (k + 1) fields ++ more ≡ others = cc in
+      stop.behind (omega arith) (more, subst Good (sym own) good);
   unfinished = λ (others, good, is). let own : fields ≡ others = cc in stop.unfinished (subst Good (sym own) good);
 })
   where

@@ -1,18 +1,17 @@
 -- PPM: what is read is a picture of the grammar, each of the grammar is read, and what each fault says.
-use Rattle.std.proofs.Common.{◌≡◌, ◌≢◌, ℕ, zero, suc, ◌+◌, ◌-◌, ◌*◌, ◌<◌, ◌≤◌, ◌⊎◌, inl, inr, Bool, true, false, cond, eqb, ltb, ◌&&◌, ◌||◌, min, List, [], ◌∷◌, ◌++◌, length, take, drop, Result, Ok, Err, refl, sym, ap, subst, ◌∙◌, arith, append_assoc}
+use Rattle.std.proofs.Common.{◌≡◌, ◌≢◌, ℕ, ◌+◌, ◌-◌, ◌*◌, ◌<◌, ◌≤◌, ◌⊎◌, inl, inr, Bool, true, false, eqb, ltb, ◌&&◌, List, [], ◌∷◌, ◌++◌, length, take, drop, Ok, Err, refl, sym, ap, subst, ◌∙◌, arith, append_assoc}
 use Rattle.std.specs.Prelude.{nat_eq, codes}
 use Rattle.std.specs.List.{starts_with}
 use Rattle.std.proofs.Math.Seq.{take-add}
-use Rattle.std.proofs.lemmas.Bool.{cases_lt, eqb-true, ltb-true, ltb-false, lt-ltb, le-ltb}
-use Rattle.mlt_base.specs.declared.fault.PpmFault.{PpmFault}
+use Rattle.std.proofs.lemmas.Bool.{cases_lt, eqb-true, ltb-true, ltb-false}
 use Rattle.mlt_base.specs.declared.fault.PpmFault.TheVariants.{NotP6, BadHeader, TooLarge, Short}
 use Rattle.mlt_base.specs.Still.{Picture}
 use Rattle.mlt_base.specs.Reading.{number}
 use Rattle.mlt_base.specs.Steps.{◌>>=◌}
-use Rattle.mlt_base.specs.Stop.{Begins, StopsAt}
-use Rattle.mlt_base.specs.Ppm.{pixels_of, needed, is_white, IsField, IsRaster, IsText, HasHeader, IsRasterOf, IsPpm, IsSide, IsDepth, IsBadNumber, AreNumbers, IsLarge, IsShort, Numbers, header, picture, ppm}
-use Rattle.mlt_base.proofs.PpmFields.{digits_in, rest_in, Parts, NoDigit, parts_of, field_no_digit, raster_no_digit}
-use Rattle.mlt_base.proofs.PpmHeaders.{value_in, Goes, goes, end_of, end3, rest3, numbers_in, header_found, Says, HeaderCase, Bad, Said, header_case, step_ok, step_err}
+use Rattle.mlt_base.specs.Stop.{StopsAt}
+use Rattle.mlt_base.specs.Ppm.{pixels_of, needed, IsField, IsRaster, IsText, HasHeader, IsRasterOf, IsPpm, IsSide, IsDepth, IsBadNumber, AreNumbers, IsLarge, IsShort, Numbers, header, picture, ppm}
+use Rattle.mlt_base.proofs.PpmFields.{digits_in, rest_in, parts_of, field_no_digit, raster_no_digit}
+use Rattle.mlt_base.proofs.PpmHeaders.{Goes, goes, end_of, numbers_in, header_found, Says, HeaderCase, Bad, Said, header_case, step_ok, step_err}
 
 -- ---- a text leaves a grammar at one place
 
@@ -107,6 +106,7 @@ ppm_case text = go (starts_with nat_eq text (codes "P6")) refl
     behind : (fields : List ℕ) → text ≡ 80 ∷ 54 ∷ fields → HeaderCase text → PpmCase text
     behind fields e (Bad at is why) = Wrong at (ppm_bad text fields at e is) why
     behind fields e (Said n is said) = Fine n (ppm_said text fields n e is) said
+
     go : (t : Bool) → starts_with nat_eq text (codes "P6") ≡ t → PpmCase text
     go true e = let (fields, is) = p6_of text e in behind fields is (header_case text fields is)
     go false e = Other (rw e refl) (λ fields is. let yes_it : starts_with nat_eq text (codes "P6") ≡ true = starts_p6 text fields is in absurd cc)
@@ -129,8 +129,9 @@ ppm_takes text p e = go (ppm_case text)
     fine n said is (Made low short room h) =
         let same : made n (drop n.end text) ≡ p = cc in
         map_text (Says text n) (IsRasterOf p) (λ w h m raster s.
-          let x = said_exactly text n w h m raster s low short in
-          (s.3, x.2, s.4, x.3, s.5, omega (arith, x.0, ap length s.6), sym same ∙ x.1)) text said
+        let x = said_exactly text n w h m raster s low short in
+        (s.3, x.2, s.4, x.3, s.5, omega (arith, x.0, ap length s.6), sym same ∙ x.1)) text said
+
     go : PpmCase text → IsPpm text p
     go (Other is why) = absurd cc
     go (Wrong at is why) = absurd cc
@@ -161,8 +162,10 @@ ppm_accepted text p (fields, field, e) =
       where
         need : need_of n ≡ needed m (w * h)
         need = rw (ew, eh, em) refl
+
         all : made n raster ≡ p
         all = rw (ew, eh, em) (sym same)
+
         go : PictureCase n raster → picture n raster ≡ Ok p
         go (Large (inl h) is) = absurd (omega arith)
         go (Large (inr h) is) = absurd (omega arith)
@@ -176,6 +179,7 @@ ppm_other text fields e = go (ppm_case text)
     fine n is (Large why h) = absurd cc
     fine n is (Lacks low short why h) = absurd cc
     fine n is (Made low short room h) = absurd cc
+
     go : PpmCase text → text ≢ 80 ∷ 54 ∷ fields
     go (Other is why) = why fields
     go (Wrong at is why) = absurd cc
@@ -188,6 +192,7 @@ ppm_wrong text at e = go (ppm_case text)
     fine n is (Large why h) = absurd cc
     fine n is (Lacks low short why h) = absurd cc
     fine n is (Made low short room h) = absurd cc
+
     go : PpmCase text → (StopsAt HasHeader text at) ⊎ IsBadNumber text at
     go (Other is why) = absurd cc
     go (Wrong place is why) = let same : place ≡ at = cc in subst (λ (k : ℕ). (StopsAt HasHeader text k) ⊎ IsBadNumber text k) same why
@@ -201,6 +206,7 @@ ppm_large text e = go (ppm_case text)
     fine n said is (Large (inr over) large) = map_text (Says text n) (λ width height maxval raster. AreNumbers width height maxval × ((4096 < width) ⊎ (4096 < height))) (λ w h m raster s. ((s.3, s.4, s.5), inr (omega (arith, s.1)))) text said
     fine n said is (Lacks low short why h) = absurd cc
     fine n said is (Made low short room h) = absurd cc
+
     go : PpmCase text → IsLarge text
     go (Other is why) = absurd cc
     go (Wrong at is why) = absurd cc
@@ -216,8 +222,9 @@ ppm_short text have need e = go (ppm_case text)
         let there : length (drop n.end text) ≡ have = cc in
         let wanted : need_of n ≡ need = cc in
         map_text (Says text n) (λ width height maxval raster. AreNumbers width height maxval × (have ≡ length raster) × (need ≡ needed maxval (width * height)) × (have < need)) (λ w h m raster s.
-          let x = said_exactly text n w h m raster s low short in
-          ((s.3, s.4, s.5), sym there ∙ ap length s.6, sym wanted ∙ x.0, omega arith)) text said
+        let x = said_exactly text n w h m raster s low short in
+        ((s.3, s.4, s.5), sym there ∙ ap length s.6, sym wanted ∙ x.0, omega arith)) text said
+
     go : PpmCase text → IsShort text have need
     go (Other is why) = absurd cc
     go (Wrong at is why) = absurd cc

@@ -1,7 +1,7 @@
 -- What reading gives for a header: its numbers, or the place where it is bad.
-use Rattle.std.proofs.Common.{◌≡◌, ℕ, zero, suc, ◌+◌, ◌<◌, ◌≤◌, ◌⊎◌, inl, inr, Bool, true, false, cond, eqb, ltb, ◌||◌, min, List, [], ◌∷◌, ◌++◌, length, take, drop, Result, Ok, Err, refl, sym, ap, subst, ◌∙◌, arith, add-one}
+use Rattle.std.proofs.Common.{◌≡◌, ℕ, ◌+◌, ◌<◌, ◌≤◌, ◌⊎◌, inl, inr, Bool, true, false, cond, eqb, ltb, min, List, [], ◌∷◌, length, take, drop, Result, Ok, Err, refl, sym, ap, subst, ◌∙◌, arith, add-one}
 use Rattle.std.specs.Char.{is_ascii_digit}
-use Rattle.std.proofs.lemmas.Bool.{eqb-true, eqb-false, ne_eqb, eq-eqb, ltb-true, lt-ltb, le-ltb, ltb-false}
+use Rattle.std.proofs.lemmas.Bool.{eqb-true, eqb-false, ne_eqb, ltb-true, le-ltb, ltb-false}
 use Rattle.std.proofs.lemmas.List.{drop-drop, length-take-le}
 use Rattle.mlt_base.specs.declared.fault.PpmFault.{PpmFault}
 use Rattle.mlt_base.specs.declared.fault.PpmFault.TheVariants.{BadHeader}
@@ -11,7 +11,7 @@ use Rattle.mlt_base.specs.Stop.{StopsAt}
 use Rattle.mlt_base.specs.Ppm.{is_white, blank_count, number_at, field_at, white_at, Numbers, header, IsField, IsRaster, IsText, HasHeader, IsSide, IsDepth, IsBad, IsBehind, IsBadNumber}
 use Rattle.mlt_base.proofs.Forms.{digit_count-le}
 use Rattle.mlt_base.proofs.PpmCounts.{blank_count-le, counted_separator}
-use Rattle.mlt_base.proofs.PpmFields.{behind, digits_in, rest_in, Parts, NoDigit, CanFollow, numeral_in, joined_in, field_of, field_no_digit, raster_no_digit, can_field, stops_at_blank, stops_at_number, stops_behind, stops_at_raster, stops_behind_p6}
+use Rattle.mlt_base.proofs.PpmFields.{behind, digits_in, rest_in, NoDigit, CanFollow, numeral_in, joined_in, field_of, field_no_digit, raster_no_digit, can_field, stops_at_blank, stops_at_number, stops_behind, stops_at_raster, stops_behind_p6}
 
 -- ---- a field
 
@@ -229,9 +229,10 @@ chain4 text fields e g1 g2 g3 = chain3 text fields e g1 g2 ∙ (step_ok (field_a
 
 -- three numbers in range, each behind a separator, and white space
 pub header_found : (text fields raster : List ℕ) (white : ℕ) → text ≡ 80 ∷ 54 ∷ fields → Goes IsSide 65536 2 fields → Goes IsSide 65536 (end_of 2 fields) (rest_in fields) → Goes IsDepth 65535 (end_of (end_of 2 fields) (rest_in fields)) (rest_in (rest_in fields)) → rest3 fields ≡ white ∷ raster → is_white white ≡ true → (header text ≡ Ok (numbers_in fields)) × (drop (end3 fields + 1) text ≡ raster)
-header_found text fields raster white e g1 g2 g3 is is_one =
-    (chain4 text fields e g1 g2 g3 ∙ step_ok (white_at (end3 fields) (rest3 fields)) (λ white. Ok (numbers_in fields)) tt (ap (white_at (end3 fields)) is ∙ white_found (end3 fields) white raster is_one),
-    sym (drop-drop 1 (end3 fields) text) ∙ ap (drop 1) (from4 text fields e ∙ is))
+header_found text fields raster white e g1 g2 g3 is is_one = (
+  chain4 text fields e g1 g2 g3 ∙ step_ok (white_at (end3 fields) (rest3 fields)) (λ white. Ok (numbers_in fields)) tt (ap (white_at (end3 fields)) is ∙ white_found (end3 fields) white raster is_one),
+  sym (drop-drop 1 (end3 fields) text) ∙ ap (drop 1) (from4 text fields e ∙ is),
+)
 
 -- ---- the cases
 
@@ -243,8 +244,10 @@ case4 text fields e g1 g2 g3 = go (white_case (end3 fields) (rest3 fields))
   where
     r1 : List ℕ
     r1 = rest_in fields
+
     r2 : List ℕ
     r2 = rest_in (rest_in fields)
+
     go : (white_at (end3 fields) (rest3 fields) ≡ Err (BadHeader (end3 fields)) × ((white : ℕ) (rest : List ℕ) → rest3 fields ≡ white ∷ rest → is_white white ≡ false)) ⊎ ((white : ℕ) × (rest : List ℕ) × (is_white white ≡ true) × (rest3 fields ≡ white ∷ rest)) → HeaderCase text
     go (inl (is, none)) = Bad (end3 fields) (chain4 text fields e g1 g2 g3 ∙ step_err (white_at (end3 fields) (rest3 fields)) (λ white. Ok (numbers_in fields)) (BadHeader (end3 fields)) is)
         (inl (stopped text fields e _ _ (omega arith) (stops_behind Height height_begins fields _ g1.blank g1.digit (stops_behind Maxval maxval_begins (rest_in fields) _ g2.blank g2.digit (stops_behind Raster raster_begins (rest_in (rest_in fields)) 0 g3.blank g3.digit (stops_at_raster (λ raster. Unit {0}) [] tt (rest3 fields) none))))))

@@ -181,7 +181,7 @@ pub record Numbers : Type 0 where
   pub maxval : ℕ
   pub end : ℕ
 
--- what stands behind `P6`; no limit but that of a maxval is a header's
+-- the numbers behind `P6`; how large a picture may be is no matter of its header
 unfoldable pub header : List ℕ → Result Numbers PpmFault
 header text = do
   width ← field_at 65536 2 (drop 2 text)
@@ -197,6 +197,7 @@ picture n raster =
     else if nat_lt (length raster) (needed n.maxval (n.width * n.height)) then Err (Short (length raster) (needed n.maxval (n.width * n.height)))
     else Ok (record { width = n.width; height = n.height; pixels = pixels_of n.maxval raster (n.width * n.height) })
 
+-- the picture of a text; of its faults `NotP6` is told first, then a bad header, then its size, and then a short raster
 unfoldable pub ppm : List ℕ → Result Picture PpmFault
 ppm text =
     if starts_with nat_eq text (codes "P6") then (header text >>= λ n. picture n (drop n.end text))

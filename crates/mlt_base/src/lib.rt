@@ -1,8 +1,10 @@
-//! What every other crate speaks of: positions, rates, profiles, texts and the refusal that can also
-//! be want of memory, and the readers of numbers, times, animations, geometries and profiles.
+//! What every other crate speaks of: positions, rates, profiles, texts, still pictures and the refusal
+//! that can also be want of memory, and the readers of numbers, times, animations, geometries and
+//! profiles.
 //!
 //! Each reader gives exactly the value of its grammar, or that grammar's first fault. The grammars
-//! stand in `specs/`, and [`laws`] says of the numbers and times which texts they accept.
+//! stand in `specs/`, that of PPM among them, whose reader is `mlt_ppm`; [`laws`] says which texts they
+//! accept.
 //!
 //! Nothing stands below this crate. Start reading at [`profile`], and then at [`whole`].
 #![tactic(auto)]

@@ -3,12 +3,12 @@ use Rattle.std.proofs.Common.{◌≡◌, ℕ, ◌+◌, ◌*◌, ◌/◌, ◌%◌
 use Rattle.std.specs.List.{All, range_with_len}
 use Rattle.std.specs.Simd.Lanes.{chunk}
 use Rattle.std.proofs.lemmas.Bool.{eqb-true, eqb-false}
-use Rattle.std.proofs.lemmas.List.{get_or-map, get_or_append_left, get_or-append-add, length-take-le}
+use Rattle.std.proofs.lemmas.List.{get_or-map, get_or_append_left, get_or-append-add}
 use Rattle.std.proofs.lemmas.List.Elements.{All-get_or}
 use Rattle.std.proofs.lemmas.List.FromFn.{get_or-range_with_len}
 use Rattle.std.proofs.lemmas.Simd.{get_or-chunk, length-chunk}
 use Rattle.mlt_base.specs.Ppm.{scaled, sample, pixel_byte}
-use Rattle.mlt_ppm.proofs.Pixels.{pixel_colour, pixel_alpha, narrow_is}
+use Rattle.mlt_ppm.proofs.Pixels.{pixel_colour, pixel_alpha}
 
 -- a byte of 0 to 255 is its own value
 pub plain_is : (v : ℕ) → v < 256 → scaled 255 v ≡ v

@@ -1,3 +1,4 @@
 pub mod Pixels
 pub mod Lanes
 pub mod Colours
+pub mod Again

@@ -1,5 +1,5 @@
 -- A picture as a PPM file.
-use Rattle.std.specs.Prelude.{ℕ, ◌+◌, ◌*◌, ◌/◌, ◌%◌, List, ◌++◌, map, length, slice_index, codes, decimal}
+use Rattle.std.specs.Prelude.{◌≡◌, ℕ, ◌+◌, ◌*◌, ◌/◌, ◌%◌, ◌<◌, List, ◌++◌, map, length, slice_index, codes, decimal}
 use Rattle.std.specs.List.{range_with_len}
 use Rattle.mlt_base.specs.Still.{Picture}
 
@@ -17,3 +17,7 @@ colours pixels = map (colour pixels) (range_with_len 0 (length pixels / 4 * 3))
 -- the whole file
 abbrev pub ppm_text : Picture → List ℕ
 ppm_text p = header_text p.width p.height ++ colours p.pixels
+
+-- no pixel shows what lies under it
+abbrev pub IsOpaque : List ℕ → Type 0
+IsOpaque pixels = (k : ℕ) → k * 4 + 3 < length pixels → slice_index pixels (k * 4 + 3) ≡ 255

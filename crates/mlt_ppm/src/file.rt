@@ -1,10 +1,10 @@
 //! A file as a picture, and a picture as a file.
 
-ghost use Rattle.std.specs.Prelude.{◌≡◌, ◌*◌, ◌≤◌, ◌++◌, length, IfOk, OnOk};
+ghost use Rattle.std.specs.Prelude.{◌≡◌, ℕ, ◌*◌, ◌<◌, ◌≤◌, ◌++◌, length, slice_index, Ok, IfOk, OnOk};
 ghost use Rattle.mlt_base.specs.Try.{TryGives};
 ghost use Rattle.mlt_base.specs.Ppm.{sample_size, picture, ppm};
 ghost use Rattle.mlt_ppm.specs.View.{numbers_of};
-ghost use Rattle.mlt_ppm.specs.Written.{header_text, colours, ppm_text};
+ghost use Rattle.mlt_ppm.specs.Written.{header_text, colours, ppm_text, IsOpaque};
 
 use crate::header::{Numbers, header};
 use crate::raster::{Scale, pixels};
@@ -16,7 +16,7 @@ use std::alloc::{AllocError, Global};
 const MOST: u32 = 4096;
 
 /// The bytes of a header that is written, at most.
-const HEADER: usize = 32;
+const HEADER: usize = 17;
 
 /// The bytes of a sample.
 fn sample_size(maxval: u32) -> usize
@@ -77,7 +77,8 @@ fn write_header(file: &mut Vec<u8>, width: u32, height: u32) -> Result<(), Alloc
 
 /// Adds the three colours of each pixel.
 fn write_colours(file: &mut Vec<u8>, pixels: &[u8]) -> Result<(), AllocError>
-    ensures { OnOk result (file.new.items ≡ file.old.items ++ colours pixels.now) }
+    ensures added { OnOk result (file.new.items ≡ file.old.items ++ colours pixels.now) }
+    ensures bytes { (k : ℕ) → slice_index pixels.now k < 256 }
 {
     for p in 0..pixels.len() / 4 {
         file.extend_from_slice(&pixels[p * 4..p * 4 + 3])?;
@@ -85,9 +86,11 @@ fn write_colours(file: &mut Vec<u8>, pixels: &[u8]) -> Result<(), AllocError>
     Ok(())
 }
 
-/// Writes a picture as a binary PPM file of samples of one byte, without its alpha.
+/// Writes a picture as a binary PPM file of samples of one byte, without its alpha. Where each alpha is
+/// 255, reading the file gives the picture.
 pub fn write(alloc: Global, still: &Still) -> Result<Vec<u8>, AllocError>
-    ensures { IfOk result (λ v. v.items ≡ ppm_text still.now) }
+    ensures file { IfOk result (λ v. v.items ≡ ppm_text still.now) }
+    ensures read_back { IfOk result (λ v. IsOpaque still.now.pixels → ppm v.items ≡ Ok still.now) }
 {
     let pixels = still.pixels();
     let mut file = Vec::with_capacity(alloc, HEADER + pixels.len() / 4 * 3)?;

@@ -12,20 +12,36 @@ fn found(read: &Result<Still, Try<PpmFault>>) -> Found<'_> {
     }
 }
 
+/// A picture of one pixel.
+fn one(pixel: &[u8]) -> Found<'_> {
+    Ok((1, 1, pixel))
+}
+
+fn fault(fault: PpmFault) -> Found<'static> {
+    Err(Try::Fault(fault))
+}
+
 #[test]
 fn read_rows(rt: HostRuntime) {
-    let one = |r, g, b| Ok((1, 1, [r, g, b, 255]));
-    let fault = |fault| Err(Try::Fault(fault));
     let rows = [
-        (b"P6 1 1 255\n\x0a\x14\x1e".as_slice(), one(10, 20, 30)),
-        (b"P6#\n1#c\r1\t\x0b\x0c255\r\x0a\x14\x1eX", one(10, 20, 30)),
+        (
+            b"P6 1 1 255\n\x0a\x14\x1e".as_slice(),
+            one(b"\x0a\x14\x1e\xff"),
+        ),
+        (
+            b"P6#\n1#c\r1\t\x0b\x0c255\r\x0a\x14\x1eX",
+            one(b"\x0a\x14\x1e\xff"),
+        ),
         (
             b"P6 0001 1 0000000000000000000000002 \0\x01\x03",
-            one(0, 128, 255),
+            one(b"\x00\x80\xff\xff"),
         ),
-        (b"P6 1 1 100 \x32\x64\x65", one(128, 255, 255)),
-        (b"P6 1 1 256 \x01\0\0\x80\x01\x01", one(255, 128, 255)),
-        (b"P6 1 1 65535 \x01\0\0\x80\xff\xff", one(1, 0, 255)),
+        (b"P6 1 1 100 \x32\x64\x65", one(b"\x80\xff\xff\xff")),
+        (b"P6 1 1 256 \x01\0\0\x80\x01\x01", one(b"\xff\x80\xff\xff")),
+        (
+            b"P6 1 1 65535 \x01\0\0\x80\xff\xff",
+            one(b"\x01\x00\xff\xff"),
+        ),
         (b"", fault(PpmFault::NotP6)),
         (b"P", fault(PpmFault::NotP6)),
         (b"P5 1 1 255 \0\0\0", fault(PpmFault::NotP6)),
@@ -52,10 +68,6 @@ fn read_rows(rt: HostRuntime) {
         (b"P6 2 1 256\n\x0a\x14", fault(PpmFault::Short(2, 12))),
     ];
     for (bytes, wanted) in rows {
-        let wanted = match &wanted {
-            Ok((width, height, pixels)) => Ok((*width, *height, pixels.as_slice())),
-            Err(refusal) => Err(*refusal),
-        };
         assert_eq!(rt; found(&read(rt.alloc(), bytes)), wanted, "{bytes:?}");
     }
 }

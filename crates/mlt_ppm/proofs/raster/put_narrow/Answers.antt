@@ -1,4 +1,4 @@
-use Rattle.std.proofs.Common.{◌≡◌, ℕ, ◌+◌, ◌*◌, ◌<◌, ◌≤◌, length, get_or, List, [], ◌∷◌, ap, sym, ◌∙◌, arith}
+use Rattle.std.proofs.Common.{◌≡◌, ◌+◌, ◌*◌, ap, sym, ◌∙◌, arith}
 use Rattle.std.proofs.lemmas.Simd.{length-put_chunk}
 use Rattle.mlt_base.specs.Ppm.{scaled, sample, pixel_byte}
 use Rattle.mlt_ppm.proofs.Pixels.{chunk_more, chunk_before, opaque_is, narrow_is}
