@@ -15,3 +15,9 @@ pub mod Rising
 pub mod Values
 pub mod Names
 mod MixingRows
+pub mod PpmRows
+pub mod PpmBlanks
+pub mod PpmCounts
+pub mod PpmFields
+pub mod PpmHeaders
+pub mod PpmForms

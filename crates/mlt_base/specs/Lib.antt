@@ -19,3 +19,6 @@ pub mod Samples
 pub mod Span
 pub mod Steps
 pub mod Mixing
+pub mod Still
+pub mod Stop
+pub mod Ppm

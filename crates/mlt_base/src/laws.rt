@@ -1,12 +1,14 @@
-//! What the readers of numbers accept, in the words of the grammars: laws that hold of every text.
+//! What the readers of numbers and pictures accept, in the words of the grammars: laws that hold of
+//! every text.
 //!
 //! Each function here does nothing; its contract is the law, over the definitions that the readers
 //! meet exactly.
 
-ghost use Rattle.std.specs.Prelude.{◌≡◌, ℕ, ◌^◌, ◌<◌, ◌≤◌, ◌⊎◌, ℤ, FitsSigned, List, [], ◌∷◌, ◌++◌, Some, None, Ok, Err};
+ghost use Rattle.std.specs.Prelude.{◌≡◌, ◌≢◌, ℕ, ◌^◌, ◌<◌, ◌≤◌, ◌⊎◌, ℤ, FitsSigned, List, [], ◌∷◌, ◌++◌, Some, None, Ok, Err};
 ghost use Rattle.std.specs.Int.{w64};
 ghost use Rattle.std.specs.List.{All};
 ghost use Rattle.mlt_base.specs.declared.fault.NumFault.TheVariants.{TooLarge};
+ghost use Rattle.mlt_base.specs.declared.fault.PpmFault.TheVariants as picture;
 ghost use Rattle.mlt_base.specs.Whole.{whole};
 ghost use Rattle.mlt_base.specs.Decimal.{decimal};
 ghost use Rattle.mlt_base.specs.Time.{Form, frames_of, time};
@@ -16,6 +18,9 @@ ghost use Rattle.mlt_base.specs.declared.table.TheConstants.{PROFILES};
 ghost use Rattle.mlt_base.specs.Name.{name_of};
 ghost use Rattle.mlt_base.specs.Profile.{Measures, row_measures, profile};
 ghost use Rattle.mlt_base.specs.Geometry.{Rectangle, geometry};
+ghost use Rattle.mlt_base.specs.Still.{Picture};
+ghost use Rattle.mlt_base.specs.Stop.{StopsAt};
+ghost use Rattle.mlt_base.specs.Ppm.{HasHeader, IsPpm, IsLarge, IsShort, IsBadNumber, ppm};
 ghost use Rattle.mlt_base.specs.Grammar.{IsWhole, IsDecimal, IsTime, IsNamed, IsProfile, IsWithin, IsGeometry, IsAnimation, AreHeld};
 
 /// Exactly the whole numbers that fit are read, each as itself; the others are too large.
@@ -67,4 +72,20 @@ pub fn animation_values()
     ensures before { (a : Key) (keys : List Key) (p : ℕ) → p < a.frame → value_at (a ∷ keys) p ≡ a.value.0 }
     ensures between { (front : List Key) (a b : Key) (back : List Key) (p : ℕ) → Rises None (front ++ a ∷ b ∷ back) → a.frame ≤ p → p < b.frame → value_at (front ++ a ∷ b ∷ back) p ≡ between a b p }
     ensures behind { (front : List Key) (a : Key) (p : ℕ) → Rises None (front ++ a ∷ []) → a.frame ≤ p → value_at (front ++ a ∷ []) p ≡ a.value.0 }
+{}
+
+/// Exactly the files of the grammar of PPM are read, each as its picture.
+pub fn pictures()
+    ensures accepted { (text : List ℕ) (p : Picture) → IsPpm text p → ppm text ≡ Ok p }
+    ensures only { (text : List ℕ) (p : Picture) → ppm text ≡ Ok p → IsPpm text p }
+{}
+
+/// What each fault of a file of a picture says. A bad header is told by the place where it can't go on,
+/// of which a file has at most one, or by the first digit of a number that is out of range.
+pub fn picture_faults()
+    ensures not_p6 { (text fields : List ℕ) → ppm text ≡ Err picture.NotP6 → text ≢ 80 ∷ 54 ∷ fields }
+    ensures bad_header { (text : List ℕ) (at : ℕ) → ppm text ≡ Err (picture.BadHeader at) → StopsAt HasHeader text at ⊎ IsBadNumber text at }
+    ensures one_stop { (text : List ℕ) (a b : ℕ) → StopsAt HasHeader text a → StopsAt HasHeader text b → a ≡ b }
+    ensures too_large { (text : List ℕ) → ppm text ≡ Err picture.TooLarge → IsLarge text }
+    ensures short { (text : List ℕ) (have need : ℕ) → ppm text ≡ Err (picture.Short have need) → IsShort text have need }
 {}

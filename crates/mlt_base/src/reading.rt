@@ -18,7 +18,7 @@ pub(crate) fn held(place: usize) -> u32
 }
 
 /// How many digits the bytes begin with.
-pub(crate) fn digit_count(bytes: &[u8]) -> usize
+pub fn digit_count(bytes: &[u8]) -> usize
     ensures value { result ≡ digit_count bytes.now }
     ensures bound { result ≤ length bytes.now }
 {
@@ -61,7 +61,7 @@ pub(crate) fn split_once(mark: u8, bytes: &[u8]) -> Option<(&[u8], &[u8])>
 }
 
 /// The number of these digits, held to 2^64 - 1.
-pub(crate) fn number(digits: &[u8]) -> u64
+pub fn number(digits: &[u8]) -> u64
     ensures { result ≡ min (number digits.now) (2 ^ 64 - 1) }
 {
     let mut n = 0u64;

@@ -224,11 +224,14 @@ fn counts(rt: HostRuntime) -> Result<(), Fail> {
 }
 
 #[test]
-fn keeps_texts_and_bytes(rt: HostRuntime) -> Result<(), Fail> {
+fn keeps_texts_bytes_and_pixels(rt: HostRuntime) -> Result<(), Fail> {
     let alloc = rt.alloc();
     let text = Text::new(alloc, "clip")?;
     assert_eq!(rt; text.as_str(), "clip");
     let bytes = Bytes::new([1, 2].to_vec(alloc)?);
     assert_eq!(rt; bytes.as_slice(), [1, 2].as_slice());
+    let still = Still::new(2, 1, [1, 2, 3, 4, 5, 6, 7, 8].to_vec(alloc)?);
+    assert_eq!(rt; (still.width(), still.height()), (2, 1));
+    assert_eq!(rt; still.pixels(), [1, 2, 3, 4, 5, 6, 7, 8].as_slice());
     Ok(())
 }

@@ -1,0 +1,4 @@
+pub mod Pixels
+pub mod Lanes
+pub mod Colours
+pub mod Again
