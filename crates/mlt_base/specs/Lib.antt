@@ -16,3 +16,4 @@ pub mod Grammar
 pub mod Samples
 pub mod Span
 pub mod Steps
+pub mod Walk
