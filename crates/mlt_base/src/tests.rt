@@ -220,6 +220,7 @@ fn counts(rt: HostRuntime) -> Result<(), Fail> {
     assert_eq!(rt; slow.samples_to(4294967295), 206158430160000);
     let mut steps = Steps::new();
     steps.tick();
+    assert_eq!(rt; steps.count(), 1);
     Ok(())
 }
 

@@ -41,6 +41,13 @@ impl Steps {
         Steps { count: 0 }
     }
 
+    /// How many steps were counted.
+    pub fn count(&self) -> u64
+        ensures { result ≡ self.now }
+    {
+        self.count
+    }
+
     /// Counts one step.
     pub fn tick(&mut self)
         requires { self.old < 2 ^ 63 }

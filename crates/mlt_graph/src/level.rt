@@ -92,7 +92,7 @@ impl Level {
         for draft in closed {
             tracks.push(track(alloc, draft.entries, draft.hide))?;
         }
-        tracks.push(track(alloc, list.into_entries(), hide))?;
+        tracks.push(track(alloc, list.into_parts().0, hide))?;
         Ok(Body::Tractor {
             tracks: ItemList::from_vec(tracks),
             plants: ItemList::new(alloc),

@@ -1,5 +1,5 @@
 -- Entries that are changed where they stand.
-use Rattle.std.proofs.Common.{rules, ◌≡◌, ℕ, ◌+◌, ◌-◌, ◌^◌, ◌<◌, ◌≤◌, true, List, [], ◌∷◌, ◌++◌, length, get_or, set, slice_get, Some, Result, Ok, Err, IsErrAnd, refl, sym, ap, subst, ◌∙◌, arith}
+use Rattle.std.proofs.Common.{rules, ◌≡◌, ℕ, ◌+◌, ◌-◌, ◌^◌, ◌<◌, ◌≤◌, true, List, [], ◌∷◌, ◌++◌, length, get_or, map, set, slice_get, Some, Result, Ok, Err, IsErrAnd, refl, sym, ap, subst, ◌∙◌, arith}
 use Rattle.std.proofs.lemmas.Bool.Decides.{nat_tests}
 use Rattle.std.proofs.lemmas.Grind.{pieces}
 use Rattle.std.proofs.lemmas.Option.{slice_get_read}
@@ -10,6 +10,7 @@ use Rattle.mlt_base.specs.declared.refusal.Try.{Try}
 use Rattle.mlt_base.specs.declared.refusal.Try.TheVariants.{Fault}
 use Rattle.mlt_base.specs.declared.value.Span.{Span}
 use Rattle.mlt_base.specs.declared.value.UnitId.{UnitId}
+use Rattle.mlt_index.specs.Starts as numbers
 use Rattle.mlt_tree.specs.declared.entry.Entry.{Entry}
 use Rattle.mlt_tree.specs.declared.entry.Entry.TheVariants.{Clip, Gap}
 use Rattle.mlt_tree.specs.declared.tree.Attached.{Attached}
@@ -17,9 +18,11 @@ use Rattle.mlt_tree.specs.Edits as edit
 use Rattle.mlt_tree.specs.Edits.{Edit, frames_in, grown, replaced}
 use Rattle.mlt_tree.specs.Ranges.{IsAttached, IsEntry, frames}
 use Rattle.mlt_playlist.specs.Changed.{is_within, resized, with_filter}
-use Rattle.mlt_playlist.specs.Playlist.{Does, IsCounted}
-use Rattle.mlt_playlist.proofs.Counts.{frames_in-part, frames_in-replaced, length-replaced, grown-ok, grown-long}
+use Rattle.mlt_playlist.specs.Playlist.{Does, IsCounted, IsIndexed, IsList}
+use Rattle.mlt_playlist.proofs.Counts.{All-one, entries-replaced, frames_in-part, frames_in-replaced, length-replaced, grown-ok, grown-long}
 use Rattle.mlt_playlist.proofs.Found.{counted-same, frames_in-entry, set-replaced}
+use Rattle.mlt_playlist.proofs.Indexed.{AreNumbers, all-counted, numbers_of, same-starts}
+use Rattle.mlt_playlist.proofs.Frames.{has_frame}
 
 pub replace_done : (es : List Entry) (at : ℕ) (x e new : Entry) (count : ℕ) → at < length es → x ≡ get_or es at x → e ≡ get_or es at e → count ≡ frames x → new ≡ Gap count
     → edit.replace_with_blank at es ≡ Ok (e, set es at new)
@@ -28,6 +31,16 @@ replace_done es at x e new count inside read is counted after =
     let same : x ≡ e = cc (slice_get_read es (length es) at x refl inside read) in
     let gap : new ≡ Gap (frames e) = after ∙ ap Gap (counted ∙ ap frames same) in
     rw (there, edit.replace_with_blank, gap) (ap (λ l. Ok (e, l)) (sym (set-replaced es at (Gap (frames e)) inside)))
+
+pub blank_left : (es : List Entry) (ns : List ℕ) (at : ℕ) (e new : Entry) (count : ℕ) → IsIndexed es ns → at < length es → e ≡ get_or es at e → count ≡ frames e → new ≡ Gap count → IsIndexed (set es at new) ns
+blank_left es ns at e new count indexed inside is counted after =
+    let same : frames new ≡ frames e = ap frames after ∙ counted in
+    let some = has_frame e (subst IsEntry (sym is) (All-get_or IsEntry es at e inside indexed.list.entries)) in
+    let gap : IsEntry (Gap count) = omega arith in
+    record {
+      list = (counted-same es at e new (frames_in es) (all-counted es indexed.list) inside is (subst IsEntry (sym after) gap) same).list;
+      starts = same-starts es ns at e new indexed.starts inside is same;
+    }
 
 -- a filter more
 pub IsEntry-with_filter : (e : Entry) (filter : Attached) → IsEntry e → IsAttached filter → IsEntry (with_filter e filter)
@@ -103,6 +116,41 @@ module _ (es : List Entry) (at : ℕ) (x : Entry) (first last count all sum : �
       let same : e ≡ x = cc (slice_get_read es (length es) at e refl inside read, slice_get_read es (length es) at x refl inside is) in
       let list : set es at new ≡ replaced es at 1 (resized x first last ∷ []) = set-replaced es at new inside ∙ ap (λ y. replaced es at 1 (y ∷ [])) (after ∙ ap (λ y. resized y first last) same) in
       resize_clip-is es at first last count x (slice_get_read es (length es) at x refl inside is) within ∙ grown-ok (tt {0}) (replaced es at 1 (resized x first last ∷ [])) (omega arith) (omega arith) ∙ ap (λ l. Ok (tt {0}, l)) (sym list)
+
+IsEntry-resized : (e : Entry) (first last : ℕ) → IsEntry e → first ≤ last → IsEntry (resized e first last)
+IsEntry-resized (Clip unit s filters) first last is ordered = (ordered, is.1)
+IsEntry-resized (Gap count) first last is ordered = omega arith
+
+-- the list and the starts in which an entry has other frames
+module _ (es : List Entry) (ns : List ℕ) (at : ℕ) (x : Entry) (first last count all sum : ℕ) (indexed : IsIndexed es ns) (inside : at < length es) (is : x ≡ get_or es at x) (within : is_within x first last count ≡ true)
+    (counted : all ≡ frames_in es) (total : sum ≡ all - frames x + last + 1 - first) (short : sum < 2 ^ 31) where
+  entry_is : IsEntry (resized x first last)
+  entry_is = IsEntry-resized x first last (subst IsEntry (sym is) (All-get_or IsEntry es at x inside indexed.list.entries)) (within_ordered x first last count within)
+
+  frames_are : frames_in (replaced es at 1 (resized x first last ∷ [])) ≡ sum
+  frames_are =
+      let ordered = within_ordered x first last count within in
+      omega (arith, resized_sum es at x first last all counted inside is)
+
+  pub resized_numbers : (given : List ℕ) → given ≡ (last - first + 1) ∷ [] → AreNumbers es ns at 1 (resized x first last ∷ []) given
+  resized_numbers given given_is =
+      let ordered = within_ordered x first last count within in
+      let one : last - first + 1 ≡ frames (resized x first last) = omega (arith, frames-resized x first last) in
+      numbers_of es ns at 1 (resized x first last ∷ []) given indexed.starts (omega arith) (All-one (resized x first last) entry_is) (omega (arith, frames_are)) (given_is ∙ ap (λ n. n ∷ []) one)
+
+  pub resized_left : (e new : Entry) (given after : List ℕ) → e ≡ get_or es at e → new ≡ resized e first last → given ≡ (last - first + 1) ∷ [] → after ≡ numbers.replaced ns at 1 given → IsIndexed (set es at new) after
+  resized_left e new given after read new_is given_is after_is =
+      let same : e ≡ x = cc (slice_get_read es (length es) at e refl inside read, slice_get_read es (length es) at x refl inside is) in
+      let list : set es at new ≡ replaced es at 1 (resized x first last ∷ []) = set-replaced es at new inside ∙ ap (λ y. replaced es at 1 (y ∷ [])) (new_is ∙ ap (λ y. resized y first last) same) in
+      let many = length-replaced es at 1 (resized x first last ∷ []) (omega arith) in
+      record {
+        list = subst IsList (sym list) (record {
+          entries = entries-replaced es at 1 (resized x first last ∷ []) indexed.list.entries (All-one (resized x first last) entry_is);
+          few = omega (arith, indexed.list.few);
+          short = omega (arith, frames_are);
+        });
+        starts = after_is ∙ (resized_numbers given given_is).are ∙ ap (map frames) (sym list);
+      }
 
 -- a fault that is passed on
 pub does_fault : {A : Type 0} (edited : Edit A) (old : List Entry) (fault : PlayFault) (r : Result A (Try PlayFault)) → IsErrAnd r (λ e. e ≡ Fault fault) → edited ≡ Err fault → Does edited old old r

@@ -39,37 +39,6 @@ module _ {A : Type 0} (answer : A) (es : List Entry) where
 pub frames_in-part : (es : List Entry) (at n : ℕ) → frames_in (take n (drop at es)) ≤ frames_in es
 frames_in-part es at n = omega (arith, sum_by-take-drop frames es at, sum_by-take-drop frames (drop at es) n)
 
--- the frames of a list with new entries in place of others
-pub frames_with : (es : List Entry) (at n : ℕ) (new : List Entry) (all gone come : ℕ) → all ≡ frames_in es
-    → gone ≡ frames_in (slice_range es at (at + n)) → come ≡ frames_in new → all - gone + come ≡ frames_in (replaced es at n new)
-frames_with es at n new all gone come counted went came =
-    let sum = frames_in-replaced es at n new in
-    let part = frames_in-part es at n in
-    let some : frames_in (slice_range es at (at + n)) ≡ frames_in (take n (drop at es)) = ap (λ k. frames_in (take k (drop at es))) (omega arith) in
-    omega arith
-
--- the test of a list of so many entries and frames
-pub tested : (es : List Entry) (result : Result ℕ PlayFault) → length es ≤ 100000 → IsLength (frames_in es) result → IsTested es result
-tested es (Ok count) few sized = (few, sized.0, sized.1)
-tested es (Err fault) few long = grown-long (tt {0}) es few long.0 ∙ sym (ap Err long.1)
-
-pub counted-replaced : (es : List Entry) (at n : ℕ) (new : List Entry) (count : ℕ)
-    → IsList es → All IsEntry new → IsTested (replaced es at n new) (Ok count) → IsCounted (replaced es at n new) count
-counted-replaced es at n new count old added all =
-    record {
-      list = record { entries = entries-replaced es at n new old.entries added; few = all.0; short = all.1 };
-      counted = all.2;
-    }
-
--- what is left of a list whose last entries were taken away
-pub put_items : (es : List Entry) (at n : ℕ) (new now left : List Entry) (count : ℕ) → at + n ≤ length es → count ≡ length es - n + length new
-    → now ≡ replaced es at n new ++ take n (drop at es) → left ≡ take count now → left ≡ replaced es at n new
-put_items es at n new now left count inside sized exchanged cut =
-    cut ∙ ap (take count) exchanged ∙ take_at (replaced es at n new) (take n (drop at es)) count (omega (arith, length-replaced es at n new inside))
-
-pub inserted : (es : List Entry) (at : ℕ) (entry : Entry) → insert es at entry ≡ replaced es at 0 (entry ∷ [])
-inserted es at entry = ap (λ k. take at es ++ entry ∷ drop k es) (omega arith)
-
 pub All-one : (entry : Entry) → IsEntry entry → All IsEntry (entry ∷ [])
 All-one entry ranges = search (rules, pieces)
 

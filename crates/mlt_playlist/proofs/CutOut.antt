@@ -42,13 +42,13 @@ cut_out-is es one two three from first to last start h kept same front back all 
     ∙ ap (λ e. rest e last ++ drop (to + min last 1) one) (entry_behind es one start to same h)
     ∙ ap (λ l. rest (entry_at es to) last ++ l) (drop_behind es one start (to + min last 1) same (omega arith)))
 
-length-before : (e : Entry) (k : ℕ) → length (before e k) ≡ min k 1
+pub length-before : (e : Entry) (k : ℕ) → length (before e k) ≡ min k 1
 length-before e zero = refl
 length-before e (suc k) =
     let there : ltb 0 (suc k) ≡ true = grind (arith, nat_tests) in
     rw there (omega arith)
 
-length-rest : (e : Entry) (k : ℕ) → length (rest e k) ≡ min k 1
+pub length-rest : (e : Entry) (k : ℕ) → length (rest e k) ≡ min k 1
 length-rest e zero = refl
 length-rest e (suc k) =
     let there : ltb 0 (suc k) ≡ true = grind (arith, nat_tests) in

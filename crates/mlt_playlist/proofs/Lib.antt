@@ -3,11 +3,15 @@ pub mod Counts
 pub mod CutOut
 pub mod Found
 pub mod Frames
+pub mod Indexed
 pub mod Joined
+pub mod MergedStarts
 pub mod Merging
 pub mod Mixes
+pub mod MovedStarts
 pub mod Moves
 pub mod Overlaps
+pub mod PartStarts
 pub mod Place
 pub mod Repeated
 pub mod Sizes

@@ -14,7 +14,7 @@ use Rattle.mlt_tree.specs.declared.entry.Entry.TheVariants.{Clip, Gap}
 use Rattle.mlt_tree.specs.declared.tree.Attached.{Attached}
 use Rattle.mlt_tree.specs.Edits.{before_gap, frames_in, merged, without_last_gap}
 use Rattle.mlt_tree.specs.Ranges.{IsEntry, frames}
-use Rattle.mlt_playlist.specs.Playlist.{IsCounted}
+use Rattle.mlt_playlist.specs.Playlist.{IsList}
 use Rattle.mlt_playlist.specs.Gaps.{both_gaps, pushed, pushed_at}
 
 before-pushed : (x : Entry) (es : List Entry) (e : Entry) → before_gap x (pushed es e) ≡ pushed (before_gap x es) e
@@ -48,7 +48,7 @@ pushed-none [] (Clip u s fs) b is = refl
 pushed-none (x ∷ []) a b is = ap (λ l. x ∷ l) (pushed-none [] a b is)
 pushed-none (x ∷ y ∷ es) a b is = ap (λ l. x ∷ l) (pushed-none (y ∷ es) a b is)
 
-frames_in-before : (e : Entry) (es : List Entry) → frames_in (before_gap e es) ≡ frames e + frames_in es
+pub frames_in-before : (e : Entry) (es : List Entry) → frames_in (before_gap e es) ≡ frames e + frames_in es
 frames_in-before (Clip u s fs) es = sum_by-cons frames (Clip u s fs) es
 frames_in-before (Gap n) [] = sum_by-cons frames (Gap n) []
 frames_in-before (Gap n) (Gap m ∷ es) = omega (arith, sum_by-cons frames (Gap (n + m)) es, sum_by-cons frames (Gap m) es)
@@ -158,11 +158,19 @@ last-clip es x unit s filters got clip =
     let whole = before_last es x got in
     whole ∙ sym (ap without_last_gap whole ∙ without-clip (take (length es - 1) es) x unit s filters clip)
 
-length-without : (es : List Entry) → length (without_last_gap es) ≤ length es
+pub length-without : (es : List Entry) → length (without_last_gap es) ≤ length es
 length-without [] = omega arith
 length-without (Gap n ∷ []) = omega arith
 length-without (Gap n ∷ e ∷ es) = omega (arith, length-without (e ∷ es))
 length-without (Clip u s fs ∷ es) = omega (arith, length-without es)
+
+frames-without : (es : List Entry) → frames_in (without_last_gap es) ≤ frames_in es
+frames-without [] = omega arith
+frames-without (Gap n ∷ []) = omega arith
+frames-without (Gap n ∷ e ∷ es) =
+    omega (arith, frames-without (e ∷ es), sum_by-cons frames (Gap n) (without_last_gap (e ∷ es)), sum_by-cons frames (Gap n) (e ∷ es))
+frames-without (Clip u s fs ∷ es) =
+    omega (arith, frames-without es, sum_by-cons frames (Clip u s fs) (without_last_gap es), sum_by-cons frames (Clip u s fs) es)
 
 entries-without : (es : List Entry) → All IsEntry es → All IsEntry (without_last_gap es)
 entries-without [] all = all
@@ -172,24 +180,18 @@ entries-without (Gap n ∷ e ∷ es) all =
 entries-without (Clip u s fs ∷ es) all =
     All-cons IsEntry (Clip u s fs) (without_last_gap es) (All-head IsEntry (Clip u s fs) es all) (entries-without es (All-tail IsEntry (Clip u s fs) es all))
 
-pub counted-merged : (es now : List Entry) (all : ℕ) → IsCounted es all → now ≡ merged es → IsCounted now all
-counted-merged es now all counted after =
+pub list-merged : (es now : List Entry) → IsList es → now ≡ merged es → IsList now
+list-merged es now list after =
     rw after (record {
-      list = record {
-        entries = entries-merged es counted.list.entries;
-        few = omega (arith, length-merged es);
-        short = omega (arith, frames_in-merged es);
-      };
-      counted = omega (arith, frames_in-merged es);
+      entries = entries-merged es list.entries;
+      few = omega (arith, length-merged es);
+      short = omega (arith, frames_in-merged es);
     })
 
-pub counted-without : (es now : List Entry) (all gone : ℕ) → IsCounted es all → now ≡ without_last_gap es → frames_in now + gone ≡ frames_in es → IsCounted now (all - gone)
-counted-without es now all gone counted after sum =
+pub list-without : (es now : List Entry) → IsList es → now ≡ without_last_gap es → IsList now
+list-without es now list after =
     record {
-      list = record {
-        entries = subst (All IsEntry) (sym after) (entries-without es counted.list.entries);
-        few = omega (arith, ap length after, length-without es);
-        short = omega arith;
-      };
-      counted = omega arith;
+      entries = subst (All IsEntry) (sym after) (entries-without es list.entries);
+      few = omega (arith, ap length after, length-without es);
+      short = omega (arith, ap frames_in after, frames-without es, list.short);
     }

@@ -87,12 +87,17 @@ left_first e n is = by (nat_lt n (frames e)) refl where
       let none : 0 ≡ frames e - n = grind (arith, nat_tests) in
       record { summed = none; entries = All-nil IsEntry }
 
+-- the entries of a mix are in their ranges
+pub mixed-entries : (unit n : ℕ) (a b : Entry) → IsEntry a → IsEntry b → All IsEntry (mixed_of unit n a b)
+mixed-entries unit n a b is_a is_b =
+    All-append IsEntry (without_last a n) (clip unit 0 (n - 1) [] ∷ without_first b n) (left_last a n is_a).entries (All-cons IsEntry (clip unit 0 (n - 1) []) (without_first b n) (omega arith, All-nil IsAttached) (left_first b n is_b).entries)
+
 -- the frames of two neighbours
 frames-two : (es : List Entry) (at : ℕ) → at + 1 < length es → frames_in (take 2 (drop at es)) ≡ frames (entry_at es at) + frames (entry_at es (at + 1))
 frames-two es at h = ap (λ l. frames_in (take 2 l)) (two_entries es at h) ∙ omega arith
 
 -- the size of a list in which two neighbours overlap
-mixed-sized : (es : List Entry) (at n unit : ℕ) → All IsEntry es → at + 1 < length es → 1 ≤ n → n ≤ frames (entry_at es at) → n ≤ frames (entry_at es (at + 1))
+pub mixed-sized : (es : List Entry) (at n unit : ℕ) → All IsEntry es → at + 1 < length es → 1 ≤ n → n ≤ frames (entry_at es at) → n ≤ frames (entry_at es (at + 1))
     → IsSized (replaced es at 2 (mixed_of unit n (entry_at es at) (entry_at es (at + 1)))) (length es - 1 + from_bool (nat_lt n (frames (entry_at es at))) + from_bool (nat_lt n (frames (entry_at es (at + 1))))) (frames_in es - n)
 mixed-sized es at n unit old h some first second =
     let a : Entry = entry_at es at in
@@ -111,7 +116,7 @@ mixed-sized es at n unit old h some first second =
     record {
       counted = omega (arith, length-replaced es at 2 new (omega arith));
       summed = omega (arith, frames_in-replaced es at 2 new, frames-two es at h);
-      entries = entries-replaced es at 2 new old (All-append IsEntry (without_last a n) (between ∷ without_first b n) left.entries (All-cons IsEntry between (without_first b n) (omega arith, All-nil IsAttached) right.entries));
+      entries = entries-replaced es at 2 new old (mixed-entries unit n a b is_a is_b);
     }
 
 pub mixed-tested : (es : List Entry) (at n total fa fb small less i j k : ℕ) (a b : Entry) (result : Result ℕ PlayFault)
@@ -157,3 +162,9 @@ mixed es now at n m unit total all parts between counted h some is tested one li
 
     same : now ≡ replaced es at 2 (mixed_of unit m a b)
     same = list ∙ ap (λ x. replaced es at 2 (without_last a m ++ (x ∷ without_first b m))) one
+
+-- the list that a mix leaves, by its meaning
+pub mixed-list : (es now : List Entry) (at m unit : ℕ) (between : Entry) → between ≡ clip unit 0 (m - 1) []
+    → now ≡ replaced es at 2 (without_last (entry_at es at) m ++ (between ∷ without_first (entry_at es (at + 1)) m)) → now ≡ replaced es at 2 (mixed_of unit m (entry_at es at) (entry_at es (at + 1)))
+mixed-list es now at m unit between one list =
+    list ∙ ap (λ x. replaced es at 2 (without_last (entry_at es at) m ++ (x ∷ without_first (entry_at es (at + 1)) m))) one

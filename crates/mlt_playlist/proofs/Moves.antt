@@ -13,7 +13,8 @@ use Rattle.mlt_tree.specs.Edits as edit
 use Rattle.mlt_tree.specs.Edits.{frames_in, replaced}
 use Rattle.mlt_tree.specs.Ranges.{IsEntry}
 use Rattle.mlt_playlist.specs.Changed.{moved}
-use Rattle.mlt_playlist.specs.Playlist.{IsCounted}
+use Rattle.mlt_playlist.specs.Place.{entry_at}
+use Rattle.mlt_playlist.specs.Playlist.{IsCounted, IsList}
 use Rattle.mlt_playlist.proofs.Counts.{counted-smaller, All-one, length-replaced, frames_in-replaced, entries-replaced}
 use Rattle.mlt_playlist.proofs.Found.{part-one}
 
@@ -127,16 +128,20 @@ counted-swapped es a b all counted two last =
         All-cons IsEntry b (a ∷ []) (All-head IsEntry b [] rest) (All-one a (All-head IsEntry a (b ∷ []) both))
 
 -- what swapping leaves
-pub record IsSwapped (es now : List Entry) (all : ℕ) : Type 0 where
-  pub counted : IsCounted now all
+pub record IsSwapped (es now : List Entry) : Type 0 where
+  pub list : IsList now
+  pub is : now ≡ replaced es (length es - 2) 2 (entry_at es (length es - 2 + 1) ∷ entry_at es (length es - 2) ∷ [])
   pub does : edit.swap_last es ≡ Ok (tt {0}, now)
 
-pub swap_done : (es now : List Entry) (i j all : ℕ) → IsCounted es all → 2 ≤ length es → i ≡ length es - 2 → j ≡ length es - 1 → now ≡ swap es i j → IsSwapped es now all
-swap_done es now i j all counted two first second after =
+pub swap_done : (es now : List Entry) (i j : ℕ) → IsList es → 2 ≤ length es → i ≡ length es - 2 → j ≡ length es - 1 → now ≡ swap es i j → IsSwapped es now
+swap_done es now i j old two first second after =
     let a = get_or es (length es - 2) (Gap 0) in let b = get_or es (length es - 1) (Gap 0) in
     let last = last_two es two in
     let list : now ≡ take (length es - 2) es ++ (b ∷ a ∷ []) = after ∙ ap (λ k. swap es k j) first ∙ ap (λ k. swap es (length es - 2) k) second ∙ swapped es a b two last in
+    let none : drop (length es - 2 + 2) es ≡ [] = drop_all (length es - 2 + 2) es (omega arith) in
+    let one : length es - 1 ≡ length es - 2 + 1 = omega arith in
     record {
-      counted = subst (λ l. IsCounted l all) (sym list) (counted-swapped es a b all counted two last);
+      list = (subst (λ l. IsCounted l (frames_in es)) (sym list) (counted-swapped es a b (frames_in es) (record { list = old; counted = refl }) two last)).list;
+      is = list ∙ sym (ap (λ l. take (length es - 2) es ++ (b ∷ a ∷ l)) none) ∙ ap (λ k. replaced es (length es - 2) 2 (entry_at es k ∷ a ∷ [])) one;
       does = swap_last-is es a b last ∙ ap (λ l. Ok (tt {0}, l)) (sym list);
     }

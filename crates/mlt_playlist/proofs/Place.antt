@@ -73,7 +73,9 @@ at_place (e ∷ es) n h = by (λ less. at_place es (n - frames e) less) (ltb n (
       let past : frames e ≤ n = grind (arith, nat_tests) in
       behind past (clip_at es (n - frames e)) (later (omega (arith, sum_by-cons frames e es)))
 
-pub place_found : (es read : List Entry) (n count : ℕ) (found : Option (ℕ × ℕ)) (place : ℕ × ℕ) → n ≤ frames_in es
-    → read ≡ es → count ≡ length es → found ≡ clip_at read n → place ≡ unwrap_or found (count, 0) → IsAt es n place.0 place.1
-place_found es read n count found place h read_is counted found_is is =
-    subst (IsPlace es n) (sym (is ∙ ap (λ k. unwrap_or found (k, 0)) counted ∙ ap (λ o. unwrap_or o (length es, 0)) (found_is ∙ ap (λ l. clip_at l n) read_is))) (at_place es n h)
+-- in an entry, and behind them all
+pub place_there : (es : List Entry) (n index place : ℕ) → n ≤ frames_in es → Some (index, place) ≡ clip_at es n → IsAt es n index place
+place_there es n index place h is = subst (λ o. IsPlace es n (unwrap_or o (length es, 0))) (sym is) (at_place es n h)
+
+pub place_end : (es : List Entry) (n count : ℕ) → n ≤ frames_in es → count ≡ length es → None ≡ clip_at es n → IsAt es n count 0
+place_end es n count h all is = subst (λ k. IsAt es n k 0) (sym all) (subst (λ o. IsPlace es n (unwrap_or o (length es, 0))) (sym is) (at_place es n h))

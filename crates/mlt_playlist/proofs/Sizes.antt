@@ -11,7 +11,7 @@ use Rattle.mlt_tree.specs.declared.entry.Entry.TheVariants.{Gap}
 use Rattle.mlt_tree.specs.Edits.{frames_in, replaced, cut}
 use Rattle.mlt_tree.specs.Ranges.{IsEntry, frames}
 use Rattle.mlt_playlist.specs.Place.{divided, entry_at, sized}
-use Rattle.mlt_playlist.specs.Playlist.{IsCounted, IsTested}
+use Rattle.mlt_playlist.specs.Playlist.{IsCounted, IsList, IsTested}
 use Rattle.mlt_playlist.proofs.Counts.{All-one, length-replaced, frames_in-replaced, entries-replaced}
 use Rattle.mlt_playlist.proofs.Frames.{frames-cut, IsEntry-cut, frames-one}
 
@@ -71,10 +71,24 @@ divided-tested es at place from new count all added less result old h places bet
     let size = divided-sized es at place from new old h places.0 places.1 places.2 between in
     rw (is, counted, summed, more, fewer) (sized-tested (replaced es at 1 (divided (entry_at es at) place from new)) (length es + 1 + length new) (frames_in es + frames_in new - (from - place)) size)
 
--- the list and the number of its frames, once they are tested
-pub divided-counted : (es now : List Entry) (at place from : ℕ) (new : List Entry) (n : ℕ)
+-- the list with one entry more, once it is tested
+pub inserted-tested : (es : List Entry) (at size total : ℕ) (entry : Entry) (result : Result ℕ PlayFault) → IsList es → IsEntry entry → at ≤ length es → size ≡ length es + 1 → total ≡ frames_in es + frames entry
+    → result ≡ sized size total → IsTested (replaced es at 0 (entry ∷ [])) result
+inserted-tested es at size total entry result list is inside many long sizes =
+    let none : frames_in (take 0 (drop at es)) ≡ 0 = omega arith in
+    rw sizes (sized-tested (replaced es at 0 (entry ∷ [])) size total (record {
+      counted = omega (arith, length-replaced es at 0 (entry ∷ []) (omega arith));
+      summed = omega (arith, frames_in-replaced es at 0 (entry ∷ []), frames-one entry);
+      entries = entries-replaced es at 0 (entry ∷ []) list.entries (All-one entry is);
+    }))
+
+pub inserted-list : (es : List Entry) (at n : ℕ) (entry : Entry) → IsList es → IsEntry entry → IsTested (replaced es at 0 (entry ∷ [])) (Ok n) → IsList (replaced es at 0 (entry ∷ []))
+inserted-list es at n entry list is tested =
+    (tested-counted (replaced es at 0 (entry ∷ [])) n (entries-replaced es at 0 (entry ∷ []) list.entries (All-one entry is)) tested).list
+
+-- a list in which an entry is cut in two, once it is tested
+pub divided-list : (es : List Entry) (at place from : ℕ) (new : List Entry) (n : ℕ)
     → All IsEntry es → at < length es → (1 ≤ place) × (place ≤ from) × (from < frames (entry_at es at)) → All IsEntry new
-    → IsTested (replaced es at 1 (divided (entry_at es at) place from new)) (Ok n)
-    → now ≡ replaced es at 1 (divided (entry_at es at) place from new) → IsCounted now n
-divided-counted es now at place from new n old h places between tested is =
-    rw is (tested-counted (replaced es at 1 (divided (entry_at es at) place from new)) n (divided-sized es at place from new old h places.0 places.1 places.2 between).entries tested)
+    → IsTested (replaced es at 1 (divided (entry_at es at) place from new)) (Ok n) → IsList (replaced es at 1 (divided (entry_at es at) place from new))
+divided-list es at place from new n old h places between tested =
+    (tested-counted (replaced es at 1 (divided (entry_at es at) place from new)) n (divided-sized es at place from new old h places.0 places.1 places.2 between).entries tested).list

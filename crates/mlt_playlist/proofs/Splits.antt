@@ -10,7 +10,7 @@ use Rattle.mlt_tree.specs.declared.entry.Entry.TheVariants.{Gap}
 use Rattle.mlt_tree.specs.Ranges.{frames}
 use Rattle.mlt_tree.specs.Edits.{frames_in, grown, replaced, with_entry, before_split, split, split_at, first_frames, frames_from}
 use Rattle.mlt_playlist.specs.Place.{IsAt, before, rest, divided, entry_at}
-use Rattle.mlt_playlist.specs.Playlist.{IsList, IsCounted, Does}
+use Rattle.mlt_playlist.specs.Playlist.{IsList, Does}
 use Rattle.mlt_playlist.proofs.Counts.{grown-ok}
 
 -- an entry that is found, by its frames
@@ -66,7 +66,5 @@ stays es at i p list h is none =
         same = omega arith
 
 -- at the start of an entry the list stays
-pub split_at-start : (es kept : List Entry) (count at i p : ℕ) → IsCounted kept count → kept ≡ es → at ≤ count → IsAt es at i p → p ≡ 0 → split_at at es ≡ Ok (i, es)
-split_at-start es kept count at i p is same h place none =
-    let all : frames_in kept ≡ frames_in es = ap frames_in same in
-    stays es at i p (subst IsList same is.list) (omega (arith, is.counted)) place none
+pub split_at-start : (es : List Entry) (count at i p : ℕ) → IsList es → count ≡ frames_in es → at ≤ count → IsAt es at i p → p ≡ 0 → split_at at es ≡ Ok (i, es)
+split_at-start es count at i p list all h place none = stays es at i p list (omega arith) place none

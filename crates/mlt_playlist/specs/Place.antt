@@ -1,5 +1,5 @@
 -- Where a position lies in a list of entries, and an entry that is cut there.
-use Rattle.std.specs.Prelude.{ℕ, ◌+◌, ◌^◌, ◌≡◌, ◌≤◌, ◌<◌, min, nat_lt, if◌then◌else◌, List, [], ◌∷◌, ◌++◌, length, take, drop, slice_index_or, Result, Ok, Err}
+use Rattle.std.specs.Prelude.{ℕ, ◌+◌, ◌^◌, ◌≡◌, ◌≤◌, ◌<◌, min, nat_lt, if◌then◌else◌, List, [], ◌∷◌, ◌++◌, length, map, take, drop, slice_index_or, Result, Ok, Err}
 use Rattle.mlt_base.specs.declared.faults.PlayFault.{PlayFault}
 use Rattle.mlt_base.specs.declared.faults.PlayFault.TheVariants.{TooMany, TooLong}
 use Rattle.mlt_tree.specs.declared.entry.Entry.{Entry}
@@ -18,6 +18,11 @@ before e place = if nat_lt 0 place then cut e 0 place ∷ [] else []
 abbrev pub rest : Entry → ℕ → List Entry
 rest e place = if nat_lt 0 place then cut e place (frames e) ∷ [] else []
 
+-- a list without what stands from a place in an entry to before one in a later, or in it if none stays
+abbrev pub without_part : List Entry → (from first to last : ℕ) → List Entry
+without_part es from first to last =
+    take from es ++ (before (entry_at es from) first ++ (rest (entry_at es to) last ++ drop (to + min last 1) es))
+
 -- a position of a list: so many entries stand before it, and so many frames of the next one
 pub record IsAt (es : List Entry) (position index place : ℕ) : Type 0 where
   pub within : index ≤ length es
@@ -30,6 +35,10 @@ pub record IsAt (es : List Entry) (position index place : ℕ) : Type 0 where
 -- an entry in two: its frames before a place, other entries, and its frames from a place on
 abbrev pub divided : Entry → (place from : ℕ) → List Entry → List Entry
 divided e place from between = cut e 0 place ∷ (between ++ cut e from (frames e) ∷ [])
+
+-- the numbers of frames of such entries
+abbrev pub divided_numbers : (first : ℕ) → List Entry → (last : ℕ) → List ℕ
+divided_numbers first between last = first ∷ (map frames between ++ last ∷ [])
 
 -- the number of frames of a list with so many entries and frames, or why there is no such list
 abbrev pub sized : (count frames : ℕ) → Result ℕ PlayFault

@@ -1,18 +1,23 @@
 -- What a playlist is, and what a call does that edits one.
-use Rattle.std.specs.Prelude.{ℕ, ◌≡◌, ◌≤◌, ◌<◌, ◌^◌, List, All, length, Result, Ok, Err}
+use Rattle.std.specs.Prelude.{ℕ, ◌≡◌, ◌≤◌, ◌<◌, ◌^◌, List, All, length, map, Result, Ok, Err}
 use Rattle.mlt_base.specs.declared.faults.PlayFault.{PlayFault}
 use Rattle.mlt_base.specs.declared.faults.PlayFault.TheVariants.{TooLong}
 use Rattle.mlt_base.specs.declared.refusal.Try.{Try}
 use Rattle.mlt_base.specs.declared.refusal.Try.TheVariants.{Fault, Memory}
 use Rattle.mlt_tree.specs.declared.entry.Entry.{Entry}
 use Rattle.mlt_tree.specs.Edits.{Edit, frames_in, grown}
-use Rattle.mlt_tree.specs.Ranges.{IsEntry}
+use Rattle.mlt_tree.specs.Ranges.{IsEntry, frames}
 
 -- the entries of a playlist: each in its range, not too many, and not too many frames
 pub record IsList (es : List Entry) : Type 0 where
   pub entries : All IsEntry es
   pub few : length es ≤ 100000
   pub short : frames_in es < 2 ^ 31
+
+-- a list beside its entries' numbers of frames, in order
+pub record IsIndexed (es : List Entry) (ns : List ℕ) : Type 0 where
+  pub list : IsList es
+  pub starts : ns ≡ map frames es
 
 -- a list beside the number of its frames
 pub record IsCounted (es : List Entry) (frames : ℕ) : Type 0 where

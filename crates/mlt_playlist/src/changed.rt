@@ -7,6 +7,7 @@ ghost use Rattle.mlt_playlist.specs.Changed.{is_within, resized, with_filter};
 ghost use Rattle.mlt_playlist.specs.Playlist.{Does};
 
 use crate::cut::frames_of;
+use crate::index::exchange_starts;
 use crate::playlist::Playlist;
 use crate::refused::{bad_clip, bad_range};
 use crate::splice::length_of;
@@ -106,10 +107,10 @@ impl Playlist {
         if !is_within(entry, first, last, length) {
             return Err(Try::Fault(bad_range(first, last, length)));
         }
-        let others = u64::from(self.frames) - frames_of(entry);
-        let frames = length_of(others + u64::from(last) + 1 - u64::from(first))?;
+        let others = u64::from(self.length()) - frames_of(entry);
+        length_of(others + u64::from(last) + 1 - u64::from(first))?;
         resize(&mut self.entries[at], first, last);
-        self.frames = frames;
+        exchange_starts(&mut self.starts, at, 1, &[last - first + 1]);
         Ok(())
     }
 }

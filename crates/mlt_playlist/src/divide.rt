@@ -1,15 +1,17 @@
 //! Entries that are cut in two, where they stand.
 
-ghost use Rattle.std.specs.Prelude.{◌≡◌, ◌+◌, ◌≤◌, ◌<◌, ◌^◌, [], ◌∷◌, All, length, option_to_list, vec_len, vec_capacity, OnOk, OnErr};
+ghost use Rattle.std.specs.Prelude.{◌≡◌, ◌+◌, ◌≤◌, ◌<◌, ◌^◌, [], ◌∷◌, All, length, map, sum, option_to_list, vec_len, vec_capacity, OnOk, OnErr};
+ghost use Rattle.mlt_index.specs.Starts as numbers;
 ghost use Rattle.mlt_tree.specs.Edits.{frames_in, grown, replaced};
 ghost use Rattle.mlt_tree.specs.Ranges.{IsEntry, frames as frames_of};
-ghost use Rattle.mlt_playlist.specs.Place.{divided, entry_at, sized};
-ghost use Rattle.mlt_playlist.specs.Playlist.{Does, IsCounted, IsTested};
+ghost use Rattle.mlt_playlist.specs.Place.{divided, divided_numbers, entry_at, sized};
+ghost use Rattle.mlt_playlist.specs.Playlist.{Does, IsCounted, IsIndexed, IsList, IsTested};
 
 use crate::cut::{copy_part, frames_of, narrow};
 use crate::playlist::Playlist;
 use crate::splice::{MOST_ENTRIES, length_of};
 use mlt_base::{PlayFault, Try};
+use mlt_index::Starts;
 use mlt_tree::Entry;
 use std::alloc::AllocError;
 
@@ -61,23 +63,54 @@ fn insert_some(entries: &mut Vec<Entry>, at: usize, entry: Option<Entry>)
     }
 }
 
-/// Cuts an entry in two, with another, if there is one, between them; all or nothing is done.
+/// Puts the numbers of the parts of an entry, and that of another, if there is one, between them, in
+/// place of the entry's own; all or nothing is done.
+fn divide_start(
+    starts: &mut Starts,
+    at: usize,
+    first: u32,
+    between: &Option<Entry>,
+    last: u32,
+) -> Result<(), AllocError>
+    requires there { at < length starts.old }
+    requires some { (1 ≤ first) × (1 ≤ last) }
+    requires between { All IsEntry (option_to_list between.now) }
+    requires short { sum (numbers.replaced starts.old at 1 (divided_numbers first (option_to_list between.now) last)) < 2 ^ 31 }
+    ensures ok { OnOk result (starts.new ≡ numbers.replaced starts.old at 1 (divided_numbers first (option_to_list between.now) last)) }
+    ensures err { OnErr result (starts.new ≡ starts.old) }
+{
+    match between {
+        Some(entry) => starts.replace(at, 1, &[first, frames_of(entry) as u32, last]),
+        None => starts.replace(at, 1, &[first, last]),
+    }
+}
+
+/// Cuts an entry in two, with another, if there is one, between them, and its number of frames; all or
+/// nothing is done.
 fn cut_in_two(
     entries: &mut Vec<Entry>,
+    starts: &mut Starts,
     at: usize,
     place: u32,
     from: u32,
     between: Option<Entry>,
 ) -> Result<(), AllocError>
     requires there { at < length entries.old.items }
+    requires indexed { IsIndexed entries.old.items starts.old }
     requires places { (1 ≤ place) × (place ≤ from) × (from < frames_of (entry_at entries.old.items at)) }
+    requires between { All IsEntry (option_to_list between) }
     requires short { frames_of (entry_at entries.old.items at) < 2 ^ 32 }
+    requires list { IsList (replaced entries.old.items at 1 (divided (entry_at entries.old.items at) place from (option_to_list between))) }
     ensures divided { OnOk result (entries.new.items ≡ replaced entries.old.items at 1 (divided (entry_at entries.old.items at) place from (option_to_list between))) }
+    ensures starts { OnOk result (starts.new ≡ map frames_of (replaced entries.old.items at 1 (divided (entry_at entries.old.items at) place from (option_to_list between)))) }
     ensures same { OnErr result (entries.new.items ≡ entries.old.items) }
+    ensures same_starts { OnErr result (starts.new ≡ starts.old) }
 {
     let entry = &entries[at];
-    let rest = copy_part(entry, from, frames_of(entry) as u32)?;
+    let frames = frames_of(entry) as u32;
+    let rest = copy_part(entry, from, frames)?;
     entries.reserve(1 + usize::from(between.is_some()))?;
+    divide_start(starts, at, place, &between, frames - from)?;
     narrow(&mut entries[at], 0, place);
     insert_reserved(entries, at + 1, rest);
     insert_some(entries, at + 1, between);
@@ -121,9 +154,15 @@ impl Playlist {
         requires between { All IsEntry (option_to_list between) }
         ensures { Does (grown tt (replaced self.old at 1 (divided (entry_at self.old at) place from (option_to_list between)))) self.old self.new result }
     {
-        let frames = fits(&self.entries, self.frames, at, place, from, &between)?;
-        cut_in_two(&mut self.entries, at, place, from, between)?;
-        self.frames = frames;
+        fits(&self.entries, self.length(), at, place, from, &between)?;
+        cut_in_two(
+            &mut self.entries,
+            &mut self.starts,
+            at,
+            place,
+            from,
+            between,
+        )?;
         Ok(())
     }
 }

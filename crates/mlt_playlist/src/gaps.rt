@@ -1,14 +1,16 @@
 //! Gaps that stand next to each other.
 
-ghost use Rattle.std.specs.Prelude.{◌≡◌, ◌+◌, ◌≤◌, ◌<◌, ◌^◌, length, take, drop};
+ghost use Rattle.std.specs.Prelude.{◌≡◌, ◌+◌, ◌≤◌, ◌<◌, ◌^◌, length, map, take, drop};
 ghost use Rattle.mlt_tree.specs.Edits as edit;
 ghost use Rattle.mlt_tree.specs.Edits.{frames_in, merged, without_last_gap};
 ghost use Rattle.mlt_tree.specs.Ranges.{frames};
-ghost use Rattle.mlt_playlist.specs.Gaps.{both_gaps, pushed_at};
-ghost use Rattle.mlt_playlist.specs.Playlist.{Does};
+ghost use Rattle.mlt_playlist.specs.Gaps.{IsMergedFrom, both_gaps, pushed_at};
+ghost use Rattle.mlt_playlist.specs.Playlist.{Does, IsIndexed, IsList};
 
+use crate::index::exchange_starts;
 use crate::playlist::Playlist;
 use mlt_base::{PlayFault, Try};
+use mlt_index::Starts;
 use mlt_tree::Entry;
 
 /// The frames of two gaps together; `None` where one is a clip.
@@ -65,19 +67,45 @@ fn merge(entries: &mut Vec<Entry>)
     entries.truncate(kept);
 }
 
-/// Lets the last entry go where it is a gap, and gives how many frames it had.
-fn drop_last_gap(entries: &mut Vec<Entry>) -> u32
-    ensures list { entries.new.items ≡ without_last_gap entries.old.items }
-    ensures frames { frames_in entries.new.items + result ≡ frames_in entries.old.items }
+/// Puts the number of the gap at an index and that of the gap behind it, if one begins what is merged
+/// there, as one, and gives how many frames the gap has that begins what is merged then.
+fn merge_start(starts: &mut Starts, entries: &[Entry], at: usize, behind: u32) -> u32
+    requires there { at < length entries.now }
+    requires list { IsList entries.now }
+    requires merged { IsMergedFrom entries.now (at + 1) starts.old behind }
+    ensures { IsMergedFrom entries.now at starts.new result }
+{
+    let Entry::Gap { frames } = &entries[at] else {
+        return 0;
+    };
+    let both = *frames + behind;
+    if behind > 0 {
+        exchange_starts(starts, at, 2, &[both]);
+    }
+    both
+}
+
+/// Puts the numbers of neighbouring gaps as one.
+fn merge_starts(starts: &mut Starts, entries: &[Entry])
+    requires { IsIndexed entries.now starts.old }
+    ensures { starts.new ≡ map frames (merged entries.now) }
+{
+    let mut behind = 0;
+    let mut at = entries.len();
+    while at > 0 {
+        at -= 1;
+        behind = merge_start(starts, entries, at, behind);
+    }
+}
+
+/// Lets the last entry go where it is a gap.
+fn drop_last_gap(entries: &mut Vec<Entry>)
+    ensures { entries.new.items ≡ without_last_gap entries.old.items }
 {
     match entries.last() {
-        Some(Entry::Gap { frames }) => {
-            let frames = *frames;
-            entries.truncate(entries.len() - 1);
-            frames
-        }
-        Some(Entry::Clip { .. }) => 0,
-        None => 0,
+        Some(Entry::Gap { .. }) => entries.truncate(entries.len() - 1),
+        Some(Entry::Clip { .. }) => {}
+        None => {}
     }
 }
 
@@ -87,9 +115,13 @@ impl Playlist {
     pub fn consolidate_blanks(&mut self, keep: bool) -> Result<(), Try<PlayFault>>
         ensures { Does (edit.consolidate_blanks keep self.old) self.old self.new result }
     {
+        merge_starts(&mut self.starts, &self.entries);
         merge(&mut self.entries);
         if !keep {
-            self.frames -= drop_last_gap(&mut self.entries);
+            let count = self.entries.len();
+            drop_last_gap(&mut self.entries);
+            let left = self.entries.len();
+            exchange_starts(&mut self.starts, left, count - left, &[]);
         }
         Ok(())
     }

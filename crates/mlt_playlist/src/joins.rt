@@ -86,8 +86,11 @@ impl Playlist {
         if at >= count {
             return Err(Try::Fault(bad_clip(at, count)));
         }
-        fits(&self.entries, self.frames, at, n)?;
+        fits(&self.entries, self.length(), at, n)?;
         let more = copies(self.alloc(), &self.entries[at], n as usize - 1)?;
-        self.put(at + 1, 0, more)
+        match self.splice(at + 1, 0, ItemList::from_vec(more)) {
+            Ok(_) => Ok(()),
+            Err(_) => Err(Try::Memory),
+        }
     }
 }

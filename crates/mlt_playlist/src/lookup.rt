@@ -3,26 +3,10 @@
 ghost use Rattle.std.specs.Prelude.{◌≡◌, ◌+◌, ◌≤◌, length, take, drop, option_map, IfOk};
 ghost use Rattle.mlt_tree.specs.Edits as edit;
 
-use crate::cut::frames_of;
 use crate::playlist::{EntryList, Playlist};
-use mlt_base::Pos;
+use mlt_base::{Pos, Steps};
 use mlt_tree::{Entry, ItemList};
 use std::alloc::{AllocError, Global};
-
-/// The index of the entry that has a position, and the place in it; `None` past the end.
-pub(crate) fn find(entries: &[Entry], at: u32) -> Option<(usize, u32)>
-    ensures { result ≡ edit.clip_at entries.now at }
-{
-    let mut left = u64::from(at);
-    for index in 0..entries.len() {
-        let frames = frames_of(&entries[index]);
-        if left < frames {
-            return Some((index, left as u32));
-        }
-        left -= frames;
-    }
-    None
-}
 
 /// A copy of the entries.
 fn copy(alloc: Global, entries: &[Entry]) -> Result<EntryList, AllocError>
@@ -41,8 +25,7 @@ impl Playlist {
     pub fn clip_at(&self, at: Pos) -> Option<(usize, Pos)>
         ensures { option_map (λ x. (x.0, x.1.0)) result ≡ edit.clip_at self.now at.0 }
     {
-        let (index, place) = find(&self.entries, at.0)?;
-        Some((index, Pos(place)))
+        self.starts.find(at, &mut Steps::new())
     }
 
     /// A copy of n entries from an index on, with memory of its own.

@@ -1,13 +1,13 @@
 //! Two entries that overlap.
 
-ghost use Rattle.std.specs.Prelude.{◌≡◌, ℕ, ◌+◌, ◌-◌, ◌≤◌, ◌<◌, ◌^◌, ◌∷◌, ◌++◌, All, length, min, vec_capacity, IfOk, OnOk, OnErr};
+ghost use Rattle.std.specs.Prelude.{◌≡◌, ℕ, ◌+◌, ◌-◌, ◌≤◌, ◌<◌, ◌^◌, ◌∷◌, ◌++◌, All, length, map, min, vec_capacity, IfOk, OnOk, OnErr};
 ghost use Rattle.mlt_tree.specs.Edits as edit;
 ghost use Rattle.mlt_tree.specs.Edits.{cut, replaced, mixed_of};
 ghost use Rattle.mlt_tree.specs.Ranges.{IsEntry, frames};
 ghost use Rattle.mlt_playlist.specs.Overlaps.{answer_of, first_part, last_part, without_first, without_last};
 ghost use Rattle.mlt_playlist.specs.Parts.{mixed_view};
 ghost use Rattle.mlt_playlist.specs.Place.{entry_at};
-ghost use Rattle.mlt_playlist.specs.Playlist.{Does, IsCounted, IsTested};
+ghost use Rattle.mlt_playlist.specs.Playlist.{Does, IsCounted, IsIndexed, IsTested};
 
 use crate::cut::{copy_part, frames_of, narrow};
 use crate::divide::{insert_reserved, sized};
@@ -15,6 +15,7 @@ use crate::joins::whole;
 use crate::playlist::{MixParts, Playlist};
 use crate::refused::too_few;
 use mlt_base::{PlayFault, Try, UnitId};
+use mlt_index::Starts;
 use mlt_tree::Entry;
 use std::alloc::AllocError;
 
@@ -85,20 +86,56 @@ fn take_first(entries: &mut Vec<Entry>, at: usize, n: u32, copy: Option<Entry>) 
     }
 }
 
+/// Puts the numbers of what two neighbours become that overlap by n frames in place of theirs; all or
+/// nothing is done.
+fn overlap_starts(
+    starts: &mut Starts,
+    entries: &[Entry],
+    at: usize,
+    n: u32,
+) -> Result<(), AllocError>
+    requires there { at + 1 < length entries.now }
+    requires indexed { IsIndexed entries.now starts.old }
+    requires some { 1 ≤ n }
+    requires first { n ≤ frames (entry_at entries.now at) }
+    requires second { n ≤ frames (entry_at entries.now (at + 1)) }
+    ensures ok { OnOk result ((unit : ℕ) → starts.new ≡ map frames (replaced entries.now at 2 (mixed_of unit n (entry_at entries.now at) (entry_at entries.now (at + 1))))) }
+    ensures err { OnErr result (starts.new ≡ starts.old) }
+{
+    let before = frames_of(&entries[at]) as u32 - n;
+    let behind = frames_of(&entries[at + 1]) as u32 - n;
+    let parts = [before, n, behind];
+    starts.replace(
+        at,
+        2,
+        &parts[usize::from(before == 0)..2 + usize::from(behind > 0)],
+    )
+}
+
 /// Puts a clip in place of the n frames by which two neighbours overlap; all or nothing is done.
-fn overlap(entries: &mut Vec<Entry>, at: usize, n: u32, clip: Entry) -> Result<MixParts, AllocError>
+fn overlap(
+    entries: &mut Vec<Entry>,
+    starts: &mut Starts,
+    at: usize,
+    n: u32,
+    clip: Entry,
+) -> Result<MixParts, AllocError>
     requires there { at + 1 < length entries.old.items }
+    requires indexed { IsIndexed entries.old.items starts.old }
     requires some { 1 ≤ n }
     requires first { (n ≤ frames (entry_at entries.old.items at)) × (frames (entry_at entries.old.items at) < 2 ^ 32) }
     requires second { (n ≤ frames (entry_at entries.old.items (at + 1))) × (frames (entry_at entries.old.items (at + 1)) < 2 ^ 32) }
     requires entries { All IsEntry entries.old.items }
     ensures list { OnOk result (entries.new.items ≡ replaced entries.old.items at 2 (without_last (entry_at entries.old.items at) n ++ (clip ∷ without_first (entry_at entries.old.items (at + 1)) n))) }
+    ensures starts { OnOk result ((unit : ℕ) → starts.new ≡ map frames (replaced entries.old.items at 2 (mixed_of unit n (entry_at entries.old.items at) (entry_at entries.old.items (at + 1))))) }
     ensures parts { IfOk result (λ parts. mixed_view parts ≡ edit.mixed_parts n (entry_at entries.old.items at) (entry_at entries.old.items (at + 1))) }
     ensures same { OnErr result (entries.new.items ≡ entries.old.items) }
+    ensures same_starts { OnErr result (starts.new ≡ starts.old) }
 {
     let last = copy_last(&entries[at], n)?;
     let first = copy_first(&entries[at + 1], n)?;
     entries.reserve(usize::from(last.is_some() && first.is_some()))?;
+    overlap_starts(starts, entries, at, n)?;
     let left = usize::from(last.is_some());
     let b = take_first(entries, at + 1, n, first);
     let a = take_last(entries, at, n, last);
@@ -145,10 +182,9 @@ impl Playlist {
             return Err(Try::Fault(too_few(at, count, 2)));
         }
         let shared = share(&self.entries, at, n);
-        let frames = fits(&self.entries, self.frames, at, shared)?;
+        fits(&self.entries, self.length(), at, shared)?;
         let clip = whole(self.alloc(), unit, shared);
-        let parts = overlap(&mut self.entries, at, shared, clip)?;
-        self.frames = frames;
+        let parts = overlap(&mut self.entries, &mut self.starts, at, shared, clip)?;
         Ok(parts)
     }
 }

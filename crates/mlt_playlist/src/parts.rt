@@ -5,13 +5,12 @@ ghost use Rattle.mlt_tree.specs.Edits as edit;
 ghost use Rattle.mlt_tree.specs.Edits.{frames_in};
 ghost use Rattle.mlt_tree.specs.Ranges.{frames};
 ghost use Rattle.mlt_playlist.specs.Place.{IsAt};
-ghost use Rattle.mlt_playlist.specs.Playlist.{Does};
+ghost use Rattle.mlt_playlist.specs.Playlist.{Does, IsList};
 
 use crate::cut::frames_of;
-use crate::lookup::find;
 use crate::playlist::Playlist;
 use crate::refused::{bad_clip, bad_range};
-use mlt_base::{PlayFault, Try};
+use mlt_base::{PlayFault, Pos, Try};
 
 /// How many of so many frames come before a split at k; `None` where all or none would.
 fn before_split(frames: u32, k: i64) -> Option<u32>
@@ -43,9 +42,13 @@ impl Playlist {
     /// How many entries stand before a position, and how many frames of the next one.
     pub(crate) fn place(&self, at: u32) -> (usize, u32)
         requires { at ≤ frames_in self.now }
-        ensures { IsAt self.now at result.0 result.1 }
+        ensures at { IsAt self.now at result.0 result.1 }
+        ensures list { IsList self.now }
     {
-        find(&self.entries, at).unwrap_or((self.entries.len(), 0))
+        match self.clip_at(Pos(at)) {
+            Some((index, place)) => (index, place.0),
+            None => (self.entries.len(), 0),
+        }
     }
 
     /// Splits the entry at an index in two: its frames 0 to k, then the others. A k below 0 counts from
@@ -72,7 +75,7 @@ impl Playlist {
     pub fn split_at(&mut self, at: u32) -> Result<usize, Try<PlayFault>>
         ensures { Does (edit.split_at at self.old) self.old self.new result }
     {
-        let length = self.frames;
+        let length = self.length();
         if at > length {
             return Err(Try::Fault(bad_range(at, at, length)));
         }

@@ -1,10 +1,12 @@
 //! A playlist, and what can be asked of it.
 
-ghost use Rattle.std.specs.Prelude.{◌≡◌, [], length, slice_get};
+ghost use Rattle.std.specs.Prelude.{◌≡◌, [], length, map, slice_get};
 ghost use Rattle.std.specs.Option.{option_copied};
 ghost use Rattle.mlt_tree.specs.Edits.{frames_in};
+ghost use Rattle.mlt_tree.specs.Ranges.{frames};
 ghost use Rattle.mlt_playlist.specs.Playlist.{IsList};
 
+use mlt_index::Starts;
 use mlt_tree::{Entry, ItemList};
 use std::alloc::Global;
 use std::marker::Model;
@@ -27,20 +29,20 @@ pub struct MixParts {
 #[derive(Drop)]
 pub struct Playlist {
     pub(crate) entries: Vec<Entry>,
-    // how many frames the entries have together
-    pub(crate) frames: u32,
+    // where each entry begins
+    pub(crate) starts: Starts,
 }
 
 impl Model for Playlist {
     ghost use Rattle.std.specs.Prelude.{List};
     ghost use Rattle.mlt_tree.specs.declared.entry.Entry.{Entry};
-    ghost use Rattle.mlt_playlist.specs.Playlist.{IsCounted};
+    ghost use Rattle.mlt_playlist.specs.Playlist.{IsIndexed};
 
     ghost Value = { List Entry };
 
     ghost view = { λ list. list.entries.items };
 
-    ghost invariant = { λ list. IsCounted list.entries.items list.frames };
+    ghost invariant = { λ list. IsIndexed list.entries.items list.starts };
 }
 
 impl Playlist {
@@ -50,7 +52,7 @@ impl Playlist {
     {
         Playlist {
             entries: Vec::new(alloc),
-            frames: 0,
+            starts: Starts::new(alloc),
         }
     }
 
@@ -66,15 +68,16 @@ impl Playlist {
     pub fn length(&self) -> u32
         ensures { result ≡ frames_in self.now }
     {
-        self.frames
+        self.starts.sum()
     }
 
     /// Lets all entries go.
     pub fn clear(&mut self)
         ensures { self.new ≡ [] }
     {
+        let alloc = self.alloc();
         self.entries.clear();
-        self.frames = 0;
+        self.starts = Starts::new(alloc);
     }
 
     /// The entry at an index from 0; `None` where the index isn't below the count.
@@ -91,13 +94,14 @@ impl Playlist {
         self.entries.as_slice()
     }
 
-    /// The entries, in order, without a copy.
-    pub fn into_entries(self) -> EntryList
-        ensures entries { result ≡ self }
+    /// The entries, in order, and where each begins, without a copy.
+    pub fn into_parts(self) -> (EntryList, Starts)
+        ensures entries { result.0 ≡ self }
+        ensures starts { result.1 ≡ map frames self }
         ensures list { IsList self }
     {
-        let Playlist { entries, frames: _ } = self;
-        ItemList::from_vec(entries)
+        let Playlist { entries, starts } = self;
+        (ItemList::from_vec(entries), starts)
     }
 
     /// What its memory is taken from.

@@ -1,18 +1,20 @@
 //! Frames that are taken out at a position, and entries that are put in there.
 
-ghost use Rattle.std.specs.Prelude.{◌≡◌, ◌+◌, ◌-◌, ◌≤◌, ◌<◌, ◌^◌, [], ◌∷◌, ◌++◌, length, take, drop, min};
+ghost use Rattle.std.specs.Prelude.{◌≡◌, ◌+◌, ◌-◌, ◌≤◌, ◌<◌, ◌^◌, [], ◌∷◌, ◌++◌, length, map, take, drop, min};
 ghost use Rattle.mlt_tree.specs.Edits as edit;
 ghost use Rattle.mlt_tree.specs.Edits.{frames_in, grown};
 ghost use Rattle.mlt_tree.specs.declared.entry.Entry.TheVariants.{Gap};
 ghost use Rattle.mlt_tree.specs.Ranges.{IsEntry, frames};
-ghost use Rattle.mlt_playlist.specs.Place.{before, entry_at, rest};
-ghost use Rattle.mlt_playlist.specs.Playlist.{Does};
+ghost use Rattle.mlt_playlist.specs.Place.{before, entry_at, rest, without_part};
+ghost use Rattle.mlt_playlist.specs.Playlist.{Does, IsIndexed};
 
 use crate::cut::{frames_of, narrow};
 use crate::divide::sized;
+use crate::index::exchange_starts;
 use crate::playlist::Playlist;
 use crate::refused::{bad_range, held};
 use mlt_base::{PlayFault, Try};
+use mlt_index::Starts;
 use mlt_tree::Entry;
 
 /// Leaves of an entry its frames before a place, if there are any, and gives the index behind them.
@@ -67,11 +69,33 @@ fn cut_out(entries: &mut Vec<Entry>, from: usize, first: u32, to: usize, last: u
     requires before { 0 < first → first < frames (entry_at entries.old.items from) }
     requires rest { 0 < last → last < frames (entry_at entries.old.items to) }
     requires short { 0 < last → frames (entry_at entries.old.items to) < 2 ^ 32 }
-    ensures { entries.new.items ≡ take from entries.old.items ++ (before (entry_at entries.old.items from) first ++ (rest (entry_at entries.old.items to) last ++ drop (to + min last 1) entries.old.items)) }
+    ensures { entries.new.items ≡ without_part entries.old.items from first to last }
 {
     let start = keep_before(entries, from, first);
     keep_rest(entries, to, last);
     erase(entries, start, to);
+}
+
+/// Takes the numbers of the frames out that [`cut_out`] takes out.
+fn cut_starts(starts: &mut Starts, entries: &[Entry], from: usize, first: u32, to: usize, last: u32)
+    requires indexed { IsIndexed entries.now starts.old }
+    requires order { from + min first 1 ≤ to }
+    requires within { to ≤ length entries.now }
+    requires there { 0 < last → to < length entries.now }
+    requires before { 0 < first → first < frames (entry_at entries.now from) }
+    requires rest { 0 < last → last < frames (entry_at entries.now to) }
+    requires short { frames_in (without_part entries.now from first to last) < 2 ^ 31 }
+    ensures { starts.new ≡ map frames (without_part entries.now from first to last) }
+{
+    let mut behind = to;
+    let mut left = 0;
+    if last > 0 {
+        behind = to + 1;
+        left = frames_of(&entries[to]) as u32 - last;
+    }
+    let parts = [first, left];
+    let some = &parts[usize::from(first == 0)..1 + usize::from(last > 0)];
+    exchange_starts(starts, from, behind - from, some);
 }
 
 impl Playlist {
@@ -82,7 +106,7 @@ impl Playlist {
     pub fn remove_region(&mut self, at: u32, n: u32) -> Result<(), Try<PlayFault>>
         ensures { Does (edit.remove_region at n self.old) self.old self.new result }
     {
-        let length = self.frames;
+        let length = self.length();
         let end = at as usize + n as usize;
         if n == 0 || end > length as usize {
             return Err(Try::Fault(bad_range(at, held(end - n.min(1) as usize), length)));
@@ -92,8 +116,8 @@ impl Playlist {
         if from == to && first > 0 {
             return self.divide(from, first, last, None);
         }
+        cut_starts(&mut self.starts, &self.entries, from, first, to, last);
         cut_out(&mut self.entries, from, first, to, last);
-        self.frames = length - n;
         Ok(())
     }
 
@@ -106,7 +130,7 @@ impl Playlist {
         requires entry { IsEntry entry }
         ensures { Does (edit.insert_at at entry self.old) self.old self.new result }
     {
-        if at > self.frames {
+        if at > self.length() {
             return self.append_at(at, entry);
         }
         let (index, place) = self.place(at);
@@ -122,13 +146,14 @@ impl Playlist {
         requires entry { IsEntry entry }
         ensures { Does (grown tt (self.old ++ (Gap (at - frames_in self.old) ∷ entry ∷ []))) self.old self.new result }
     {
-        let frames = sized(self.entries.len() + 2, u64::from(at) + frames_of(&entry))?;
+        let count = self.entries.len();
+        let frames = frames_of(&entry);
+        sized(count + 2, u64::from(at) + frames)?;
         self.entries.reserve(2)?;
-        self.entries.push_reserved(Entry::Gap {
-            frames: at - self.frames,
-        });
+        let gap = at - self.length();
+        self.starts.replace(count, 0, &[gap, frames as u32])?;
+        self.entries.push_reserved(Entry::Gap { frames: gap });
         self.entries.push_reserved(entry);
-        self.frames = frames;
         Ok(())
     }
 }

@@ -359,7 +359,7 @@ fn each_question(rt: HostRuntime) -> Result<(), Fail> {
     assert_eq!(rt; list.clip_at(Pos(10)), None);
     assert!(rt; list.entry(3).is_none());
     assert!(rt; are(list.copy_range(1, 2)?.as_slice(), &[SECOND, THIRD]));
-    assert!(rt; are(list.into_entries().as_slice(), &P));
+    assert!(rt; are(list.into_parts().0.as_slice(), &P));
     Ok(())
 }
 

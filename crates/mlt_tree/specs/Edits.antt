@@ -1,9 +1,9 @@
 -- Edits of a playlist: each gives its answer and the new list, or why it is refused, by take, drop and
 -- append of lists alone. Where more than one refusal holds, the one that is tested first here counts.
-use Rattle.std.specs.Prelude.{ℕ, ◌+◌, ◌-◌, ◌^◌, ℤ, pos, negsuc, Bool, ◌&&◌, nat_le, nat_lt, min, if◌then◌else◌, List, [], ◌∷◌, ◌++◌, length, take, drop, replicate, sum_by, slice_get, Option, None, Some, Result, Ok, Err}
-use Rattle.std.specs.Option.{option_map}
+use Rattle.std.specs.Prelude.{ℕ, ◌+◌, ◌-◌, ◌^◌, ℤ, pos, negsuc, Bool, ◌&&◌, nat_le, nat_lt, min, if◌then◌else◌, List, [], ◌∷◌, ◌++◌, length, take, drop, map, replicate, sum_by, slice_get, Option, None, Some, Result, Ok, Err}
 use Rattle.mlt_base.specs.Reading.{held}
 use Rattle.mlt_base.specs.Span.{span}
+use Rattle.mlt_base.specs.Walk.{walk}
 use Rattle.mlt_base.specs.declared.faults.PlayFault.{PlayFault}
 use Rattle.mlt_base.specs.declared.faults.PlayFault.TheVariants.{BadClip, BadSplit, BadRange, TooFew, TooMany, TooLong}
 use Rattle.mlt_base.specs.declared.limits.TheConstants.{MOST_ENTRIES}
@@ -208,6 +208,4 @@ attach at filter es = with_entry es at attached where
 
 -- the entry that has a position, and the place in it
 abbrev pub clip_at : List Entry → ℕ → Option (ℕ × ℕ)
-clip_at [] n = None
-clip_at (e ∷ es) n =
-    if nat_lt n (frames e) then Some (0, n) else option_map (λ found. (found.0 + 1, found.1)) (clip_at es (n - frames e))
+clip_at es at = walk (map frames es) at

@@ -1,12 +1,13 @@
 use Rattle.std.proofs.Common.{◌≡◌, length, Ok, sym, ap, subst, ◌∙◌, arith}
 use Rattle.mlt_tree.specs.Edits as edit
-use Rattle.mlt_playlist.proofs.Moves.{counted-moved, move_clip-is}
+use Rattle.mlt_playlist.proofs.Moves.{move_clip-is}
+use Rattle.mlt_playlist.specs.Changed.{moved}
+use Rattle.mlt_playlist.specs.Playlist.{IsIndexed}
 use Rattle.mlt_playlist.proofs.playlist.Playlist.move_clip.Goals as goal
 
 pub invariant_of-self : goal.invariant_of-self
 invariant_of-self c =
-    let long = ap length c.self.view_is in
-    rw c.move_entry.ensures (counted-moved c.self.inside.entries.items c.args.from c.args.to c.self.inside.frames c.self.invariant (omega arith) (omega arith))
+    rw c.move_entry.ensures (subst (λ l. IsIndexed (moved l c.args.from c.args.to) c.move_start.new.starts) c.deref.ensures.value c.move_start.ensures)
 
 pub returns : goal.returns
 returns c =
