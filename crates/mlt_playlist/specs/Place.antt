@@ -2,6 +2,7 @@
 use Rattle.std.specs.Prelude.{ℕ, ◌+◌, ◌^◌, ◌≡◌, ◌≤◌, ◌<◌, min, nat_lt, if◌then◌else◌, List, [], ◌∷◌, ◌++◌, length, map, take, drop, slice_index_or, Result, Ok, Err}
 use Rattle.mlt_base.specs.declared.faults.PlayFault.{PlayFault}
 use Rattle.mlt_base.specs.declared.faults.PlayFault.TheVariants.{TooMany, TooLong}
+use Rattle.mlt_base.specs.declared.limits.TheConstants.{MOST_ENTRIES}
 use Rattle.mlt_tree.specs.declared.entry.Entry.{Entry}
 use Rattle.mlt_tree.specs.declared.entry.Entry.TheVariants.{Gap}
 use Rattle.mlt_tree.specs.Ranges.{frames}
@@ -43,4 +44,4 @@ divided_numbers first between last = first ∷ (map frames between ++ last ∷ [
 -- the number of frames of a list with so many entries and frames, or why there is no such list
 abbrev pub sized : (count frames : ℕ) → Result ℕ PlayFault
 sized count frames =
-    if nat_lt 100000 count then Err (TooMany 100000) else (if nat_lt frames (2 ^ 31) then Ok frames else Err (TooLong frames))
+    if nat_lt MOST_ENTRIES count then Err (TooMany MOST_ENTRIES) else (if nat_lt frames (2 ^ 31) then Ok frames else Err (TooLong frames))

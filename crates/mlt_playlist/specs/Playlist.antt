@@ -4,6 +4,7 @@ use Rattle.mlt_base.specs.declared.faults.PlayFault.{PlayFault}
 use Rattle.mlt_base.specs.declared.faults.PlayFault.TheVariants.{TooLong}
 use Rattle.mlt_base.specs.declared.refusal.Try.{Try}
 use Rattle.mlt_base.specs.declared.refusal.Try.TheVariants.{Fault, Memory}
+use Rattle.mlt_base.specs.declared.limits.TheConstants.{MOST_ENTRIES}
 use Rattle.mlt_tree.specs.declared.entry.Entry.{Entry}
 use Rattle.mlt_tree.specs.Edits.{Edit, frames_in, grown}
 use Rattle.mlt_tree.specs.Ranges.{IsEntry, frames}
@@ -11,7 +12,7 @@ use Rattle.mlt_tree.specs.Ranges.{IsEntry, frames}
 -- the entries of a playlist: each in its range, not too many, and not too many frames
 pub record IsList (es : List Entry) : Type 0 where
   pub entries : All IsEntry es
-  pub few : length es ≤ 100000
+  pub few : length es ≤ MOST_ENTRIES
   pub short : frames_in es < 2 ^ 31
 
 -- a list beside its entries' numbers of frames, in order
@@ -43,5 +44,5 @@ IsLength frames (Err fault) = (2 ^ 31 ≤ frames) × (fault ≡ TooLong frames)
 
 -- a list that may have grown is a playlist again, and this is the number of its frames; or it is refused
 abbrev pub IsTested : List Entry → Result ℕ PlayFault → Type 0
-IsTested es (Ok frames) = (length es ≤ 100000) × (frames_in es < 2 ^ 31) × (frames ≡ frames_in es)
+IsTested es (Ok frames) = (length es ≤ MOST_ENTRIES) × (frames_in es < 2 ^ 31) × (frames ≡ frames_in es)
 IsTested es (Err fault) = grown (tt {0}) es ≡ Err fault

@@ -9,7 +9,8 @@ ghost use Rattle.mlt_playlist.specs.Playlist.{Does, IsCounted, IsIndexed, IsList
 
 use crate::cut::{copy_part, frames_of, narrow};
 use crate::playlist::Playlist;
-use crate::splice::{MOST_ENTRIES, length_of};
+use crate::splice::length_of;
+use mlt_base::limits::MOST_ENTRIES;
 use mlt_base::{PlayFault, Try};
 use mlt_index::Starts;
 use mlt_tree::Entry;
@@ -19,9 +20,9 @@ use std::alloc::AllocError;
 pub(crate) fn sized(count: usize, frames: u64) -> Result<u32, PlayFault>
     ensures { result ≡ sized count frames }
 {
-    if count > MOST_ENTRIES {
+    if count > MOST_ENTRIES as usize {
         return Err(PlayFault::TooMany {
-            limit: MOST_ENTRIES as u32,
+            limit: MOST_ENTRIES,
         });
     }
     length_of(frames)

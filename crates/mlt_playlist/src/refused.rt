@@ -1,6 +1,7 @@
 //! The faults that several edits answer.
 
 ghost use Rattle.std.specs.Prelude.{◌≡◌, ◌≤◌, ◌-◌};
+ghost use Rattle.mlt_base.specs.declared.limits.TheConstants.{MOST_ENTRIES};
 ghost use Rattle.mlt_base.specs.Reading.{held};
 ghost use Rattle.mlt_base.specs.declared.faults.PlayFault.TheVariants.{BadClip, BadRange, TooFew};
 
@@ -16,7 +17,7 @@ pub(crate) fn held(n: usize) -> u32
 
 /// No entry, or no clip, stands at an index of a list of so many entries.
 pub(crate) fn bad_clip(at: usize, count: usize) -> PlayFault
-    requires { count ≤ 100000 }
+    requires { count ≤ MOST_ENTRIES }
     ensures { result ≡ BadClip (held at) count }
 {
     PlayFault::BadClip {
@@ -38,7 +39,7 @@ pub(crate) fn bad_range(first: u32, last: u32, length: u32) -> PlayFault
 
 /// More entries are asked for than stand from an index of a list of so many entries on.
 pub(crate) fn too_few(at: usize, count: usize, asked: u32) -> PlayFault
-    requires { count ≤ 100000 }
+    requires { count ≤ MOST_ENTRIES }
     ensures { result ≡ TooFew asked (count - at) }
 {
     PlayFault::TooFew {

@@ -1,6 +1,7 @@
 //! Other entries in place of some: the edits that put entries in are built on this.
 
 ghost use Rattle.std.specs.Prelude.{◌≡◌, ◌+◌, ◌-◌, ◌^◌, ◌≤◌, ◌<◌, [], ◌∷◌, ◌++◌, All, length, map, take, drop, vec_len, vec_capacity, OnOk, OnErr, IfOk, IfErr};
+ghost use Rattle.mlt_base.specs.declared.limits.TheConstants.{MOST_ENTRIES};
 ghost use Rattle.mlt_tree.specs.Edits.{frames_in, grown, replaced};
 ghost use Rattle.mlt_tree.specs.Ranges.{IsEntry, frames};
 ghost use Rattle.mlt_playlist.specs.Playlist.{Does, IsIndexed, IsLength};
@@ -13,9 +14,6 @@ use mlt_base::{PlayFault, Try};
 use mlt_index::Starts;
 use mlt_tree::{Entry, ItemList};
 use std::alloc::AllocError;
-
-/// The most entries that a list can have.
-pub(crate) const MOST_ENTRIES: usize = 100_000;
 
 /// Brings the last m entries of a part before the others, and the first n of these behind all.
 fn turn(part: &mut [Entry], n: usize, m: usize)
@@ -71,7 +69,7 @@ fn trade(
     requires range { at + n ≤ length entries.old.items }
     requires indexed { IsIndexed entries.old.items starts.old }
     requires new { All IsEntry new.old.items }
-    requires few { length (replaced entries.old.items at n new.old.items) ≤ 100000 }
+    requires few { length (replaced entries.old.items at n new.old.items) ≤ MOST_ENTRIES }
     requires short { frames_in (replaced entries.old.items at n new.old.items) < 2 ^ 31 }
     ensures entries { OnOk result (entries.new.items ≡ replaced entries.old.items at n new.old.items) }
     ensures starts { OnOk result (starts.new ≡ map frames (replaced entries.old.items at n new.old.items)) }
@@ -129,7 +127,7 @@ impl Playlist {
     ) -> Result<EntryList, (EntryList, AllocError)>
         requires range { at + n ≤ length self.old }
         requires entries { All IsEntry new }
-        requires few { length (replaced self.old at n new) ≤ 100000 }
+        requires few { length (replaced self.old at n new) ≤ MOST_ENTRIES }
         requires short { frames_in (replaced self.old at n new) < 2 ^ 31 }
         ensures list { OnOk result (self.new ≡ replaced self.old at n new) }
         ensures handed_out { IfOk result (λ out. out ≡ take n (drop at self.old)) }
