@@ -43,8 +43,7 @@ pub(crate) fn make_room(
     Ok(())
 }
 
-/// Writes where each of some numbers ends, the first of which begins at a start, and gives the end of
-/// the last.
+/// Writes where each number ends, if the first begins at a start, and gives the end of the last.
 fn write(ends: &mut [u32], start: u32, frames: &[u32]) -> u32
     requires len { length ends.old ≡ length frames.now }
     requires short { start + sum frames.now < 2 ^ 31 }
@@ -72,8 +71,7 @@ fn shift(ends: &mut [u32], from: u32, to: u32)
     }
 }
 
-/// Writes the ends of some numbers from an index on, the first of which begins at a start, and moves
-/// the ends behind them, which stood behind a place.
+/// Writes the ends of numbers from an index on, and moves the ends that stood behind a place.
 pub(crate) fn rewrite(ends: &mut [u32], at: usize, start: u32, frames: &[u32], behind: u32)
     requires range { at + length frames.now ≤ length ends.old }
     requires short { start + sum frames.now < 2 ^ 31 }

@@ -1,16 +1,15 @@
 -- How many entries and frames a changed list has, and that its entries are in their ranges.
-use Rattle.std.proofs.Common.{rules, insert, ◌≡◌, ℕ, ◌+◌, ◌≤◌, ◌<◌, ◌^◌, List, [], ◌∷◌, ◌++◌, All, length, take, drop, slice_range, Result, Ok, Err, ◌-◌, refl, sym, ap, ◌∙◌, arith, length-append, length-take, length-drop}
+use Rattle.std.proofs.Common.{rules, ◌≡◌, ℕ, ◌+◌, ◌≤◌, ◌<◌, ◌^◌, List, [], ◌∷◌, ◌++◌, All, length, take, drop, Ok, Err, refl, arith, length-append, length-take, length-drop}
 use Rattle.std.proofs.lemmas.Bool.Decides.{nat_tests}
 use Rattle.std.proofs.lemmas.Grind.{pieces}
 use Rattle.std.proofs.lemmas.List.Elements.{All-append, All-take, All-drop}
 use Rattle.std.proofs.lemmas.List.Sums.{sum_by-append, sum_by-take-drop}
-use Rattle.std.proofs.lemmas.List.{drop-drop, take_at}
-use Rattle.mlt_base.specs.declared.faults.PlayFault.{PlayFault}
+use Rattle.std.proofs.lemmas.List.{drop-drop}
 use Rattle.mlt_base.specs.declared.faults.PlayFault.TheVariants.{TooLong}
 use Rattle.mlt_tree.specs.declared.entry.Entry.{Entry}
 use Rattle.mlt_tree.specs.Edits.{frames_in, grown, replaced}
 use Rattle.mlt_tree.specs.Ranges.{IsEntry, frames}
-use Rattle.mlt_playlist.specs.Playlist.{IsList, IsCounted, IsTested, IsLength}
+use Rattle.mlt_playlist.specs.Playlist.{IsCounted}
 
 pub length-replaced : (es : List Entry) (at n : ℕ) (new : List Entry) → at + n ≤ length es → length (replaced es at n new) + n ≡ length es + length new
 length-replaced es at n new inside = simp (length-append, length-take, length-drop) (omega arith)

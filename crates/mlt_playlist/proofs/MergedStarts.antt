@@ -1,7 +1,7 @@
 -- Starts after neighbouring gaps became one, from the last entry on.
-use Rattle.std.proofs.Common.{◌≡◌, ℕ, ◌+◌, ◌-◌, ◌^◌, ◌≤◌, ◌<◌, List, [], ◌∷◌, ◌++◌, All, length, take, drop, get_or, map, refl, sym, ap, subst, ◌∙◌, append_assoc, arith, append-nil, length-append, length-take}
+use Rattle.std.proofs.Common.{◌≡◌, ℕ, ◌+◌, ◌-◌, ◌^◌, ◌≤◌, ◌<◌, List, [], ◌∷◌, ◌++◌, All, length, take, drop, get_or, map, refl, sym, ap, ◌∙◌, append_assoc, arith, append-nil, length-append, length-take}
 use Rattle.std.proofs.lemmas.List.{drop_all, drop_at, drop-drop, drop_more, length-take-le, take_all, take_at, take_more}
-use Rattle.std.proofs.lemmas.List.Elements.{All-drop, All-get_or, All-head, All-nil}
+use Rattle.std.proofs.lemmas.List.Elements.{All-drop, All-head, All-nil}
 use Rattle.std.proofs.lemmas.List.Sums.{sum_by-append, sum_by-cons, sum_by-take-drop}
 use Rattle.mlt_index.specs.Starts as numbers
 use Rattle.mlt_base.specs.declared.value.Span.{Span}

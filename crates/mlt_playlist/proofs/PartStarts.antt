@@ -1,8 +1,8 @@
 -- Starts after a part of a list was taken out, and after two entries overlapped.
-use Rattle.std.proofs.Common.{◌≡◌, ℕ, zero, suc, ◌+◌, ◌-◌, ◌^◌, ◌≤◌, ◌<◌, min, Bool, true, false, not, eqb, ltb, nat_lt, List, [], ◌∷◌, ◌++◌, All, length, take, drop, get_or, map, if◌then◌else◌, Result, Ok, Err, OnOk, refl, sym, ap, subst, ◌∙◌, append_assoc, arith, length-append}
+use Rattle.std.proofs.Common.{◌≡◌, ℕ, zero, suc, ◌+◌, ◌-◌, ◌^◌, ◌≤◌, ◌<◌, min, Bool, true, false, not, eqb, ltb, nat_lt, List, [], ◌∷◌, ◌++◌, All, length, take, drop, get_or, map, if◌then◌else◌, Result, Ok, Err, OnOk, refl, sym, ap, subst, ◌∙◌, append_assoc, arith}
 use Rattle.std.specs.Int.{from_bool}
 use Rattle.std.proofs.lemmas.Bool.Decides.{nat_tests}
-use Rattle.std.proofs.lemmas.List.{append-nil, get_or_read, length-map, map-append}
+use Rattle.std.proofs.lemmas.List.{append-nil, get_or_read, map-append}
 use Rattle.std.proofs.lemmas.List.Elements.{All-append, All-cons, All-get_or, All-nil}
 use Rattle.mlt_index.specs.Starts as numbers
 use Rattle.mlt_tree.specs.declared.entry.Entry.{Entry}
@@ -10,9 +10,8 @@ use Rattle.mlt_tree.specs.declared.entry.Entry.TheVariants.{Gap}
 use Rattle.mlt_tree.specs.Edits.{clip, cut, frames_in, mixed_of, replaced}
 use Rattle.mlt_tree.specs.Ranges.{IsEntry, frames}
 use Rattle.mlt_playlist.specs.Place.{before, divided, divided_numbers, entry_at, rest, without_part}
-use Rattle.mlt_playlist.specs.Playlist.{IsIndexed, IsList}
+use Rattle.mlt_playlist.specs.Playlist.{IsIndexed}
 use Rattle.mlt_playlist.proofs.Counts.{All-one}
-use Rattle.mlt_playlist.proofs.CutOut.{length-before, length-rest}
 use Rattle.mlt_playlist.proofs.Frames.{IsEntry-cut, frames-cut}
 use Rattle.mlt_playlist.proofs.Indexed.{AreNumbers, numbers_of}
 use Rattle.mlt_playlist.proofs.Mixes.{mixed-entries, mixed-sized}

@@ -64,8 +64,7 @@ fn insert_some(entries: &mut Vec<Entry>, at: usize, entry: Option<Entry>)
     }
 }
 
-/// Puts the numbers of the parts of an entry, and that of another, if there is one, between them, in
-/// place of the entry's own; all or nothing is done.
+/// Puts the numbers of two parts, and of an entry between them, in place of one; all or nothing.
 fn divide_start(
     starts: &mut Starts,
     at: usize,
@@ -86,8 +85,7 @@ fn divide_start(
     }
 }
 
-/// Cuts an entry in two, with another, if there is one, between them, and its number of frames; all or
-/// nothing is done.
+/// Cuts an entry in two, with another, if there is one, between them; all or nothing is done.
 fn cut_in_two(
     entries: &mut Vec<Entry>,
     starts: &mut Starts,

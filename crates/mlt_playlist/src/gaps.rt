@@ -67,8 +67,7 @@ fn merge(entries: &mut Vec<Entry>)
     entries.truncate(kept);
 }
 
-/// Puts the number of the gap at an index and that of the gap behind it, if one begins what is merged
-/// there, as one, and gives how many frames the gap has that begins what is merged then.
+/// Joins the number of a gap with that of the gap behind it, and gives the number that is there then.
 fn merge_start(starts: &mut Starts, entries: &[Entry], at: usize, behind: u32) -> u32
     requires there { at < length entries.now }
     requires list { IsList entries.now }

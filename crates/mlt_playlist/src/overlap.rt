@@ -86,8 +86,7 @@ fn take_first(entries: &mut Vec<Entry>, at: usize, n: u32, copy: Option<Entry>) 
     }
 }
 
-/// Puts the numbers of what two neighbours become that overlap by n frames in place of theirs; all or
-/// nothing is done.
+/// Puts the numbers of what two neighbours become in place of theirs; all or nothing is done.
 fn overlap_starts(
     starts: &mut Starts,
     entries: &[Entry],

@@ -57,8 +57,7 @@ fn move_last(entries: &mut Vec<Entry>, n: usize, out: &mut Vec<Entry>)
     out.reverse();
 }
 
-/// Trades entries for n of a list from an index on, and their numbers of frames; all or nothing is
-/// done.
+/// Trades entries for n of a list from an index on; all or nothing is done.
 fn trade(
     entries: &mut Vec<Entry>,
     starts: &mut Starts,

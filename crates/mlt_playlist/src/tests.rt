@@ -378,6 +378,8 @@ fn one_after_another(rt: HostRuntime) -> Result<(), Fail> {
         (1, 1)
     );
 
+    let count = list.count();
+    assert_eq!(rt; count, 3);
     let out = list
         .splice(0, 2, ItemList::new(rt.alloc()))
         .map_err(|e| e.1)?;

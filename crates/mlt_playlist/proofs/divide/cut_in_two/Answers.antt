@@ -1,8 +1,8 @@
-use Rattle.std.proofs.Common.{option_to_list, sym, ◌∙◌}
+use Rattle.std.proofs.Common.{option_to_list, ◌∙◌}
 use Rattle.std.proofs.lemmas.List.{get_or_read}
 use Rattle.mlt_tree.specs.declared.entry.Entry.TheVariants.{Gap}
 use Rattle.mlt_playlist.specs.Place.{entry_at}
-use Rattle.mlt_playlist.proofs.PartStarts.{divided-are, divided-numbers, on_ok}
+use Rattle.mlt_playlist.proofs.PartStarts.{divided-are, divided-numbers}
 use Rattle.mlt_playlist.proofs.divide.cut_in_two.Goals as goal
 
 pub divide_start-requires-clause-short : goal.divide_start-requires-clause-short

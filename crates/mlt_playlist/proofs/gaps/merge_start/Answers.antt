@@ -1,5 +1,5 @@
 use Rattle.std.proofs.Common.{refl, arith}
-use Rattle.mlt_playlist.proofs.MergedStarts.{both_short, clip_next, gap_first, gap_next, gap_numbers}
+use Rattle.mlt_playlist.proofs.MergedStarts.{both_short, gap_first, gap_next, gap_numbers}
 use Rattle.mlt_playlist.proofs.gaps.merge_start.Goals as goal
 
 pub overflow_add-both : goal.overflow_add-both

@@ -1,4 +1,4 @@
-use Rattle.std.proofs.Common.{◌≡◌, ℕ, map, take, drop, ◌++◌, ap, ◌∙◌, refl, arith}
+use Rattle.std.proofs.Common.{◌≡◌, map, take, drop, ◌++◌, ap, ◌∙◌, refl, arith}
 use Rattle.mlt_tree.specs.Edits.{merged}
 use Rattle.mlt_tree.specs.Ranges.{frames}
 use Rattle.mlt_playlist.proofs.MergedStarts.{merged_none}

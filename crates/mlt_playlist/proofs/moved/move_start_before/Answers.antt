@@ -1,4 +1,4 @@
-use Rattle.std.proofs.Common.{◌≡◌, ◌+◌, ◌-◌, List, ℕ, [], ◌∷◌, map, sym, ap, subst, ◌∙◌, arith}
+use Rattle.std.proofs.Common.{◌≡◌, ◌+◌, ◌-◌, [], ◌∷◌, map, ap, subst, ◌∙◌, arith}
 use Rattle.mlt_tree.specs.Ranges.{frames}
 use Rattle.mlt_playlist.specs.Changed.{moved}
 use Rattle.mlt_playlist.specs.Playlist.{IsIndexed}

@@ -1,4 +1,4 @@
-use Rattle.std.proofs.Common.{◌≡◌, List, ℕ, [], ◌∷◌, map, sym, ap, ◌∙◌, arith}
+use Rattle.std.proofs.Common.{◌≡◌, [], ◌∷◌, map, ap, ◌∙◌, arith}
 use Rattle.mlt_tree.specs.Ranges.{frames}
 use Rattle.mlt_playlist.proofs.MovedStarts.{behind_left, behind_numbers, indexed-start}
 use Rattle.mlt_playlist.proofs.moved.move_start_behind.Goals as goal

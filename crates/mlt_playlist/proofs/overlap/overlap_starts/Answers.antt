@@ -1,4 +1,4 @@
-use Rattle.std.proofs.Common.{◌≡◌, ℕ, ◌+◌, ◌-◌, [], ◌∷◌, List, map, take, drop, OnOk, Result, Ok, Err, sym, ap, ◌∙◌, rules, arith}
+use Rattle.std.proofs.Common.{◌∙◌}
 use Rattle.mlt_playlist.proofs.PartStarts.{mixed-are, mixed-given, on_ok}
 use Rattle.mlt_playlist.proofs.overlap.overlap_starts.Goals as goal
 

@@ -1,8 +1,6 @@
 use Rattle.std.proofs.Common.{◌≡◌, ◌<◌, length, set, Ok, ap, subst, ◌∙◌, sym, arith}
-use Rattle.std.proofs.lemmas.List.Elements.{All-get_or}
 use Rattle.mlt_tree.specs.Edits as edit
 use Rattle.mlt_tree.specs.Edits.{frames_in}
-use Rattle.mlt_tree.specs.Ranges.{IsEntry, frames}
 use Rattle.mlt_playlist.proofs.Changes.{blank_left, replace_done}
 use Rattle.mlt_playlist.proofs.playlist.Playlist.replace_with_blank.Goals as goal
 
