@@ -20,6 +20,7 @@ pub mod Span
 pub mod Steps
 pub mod Mixing
 pub mod Still
+pub mod StillLends
 pub mod Stop
 pub mod Ppm
 pub mod Walk

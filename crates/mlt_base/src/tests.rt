@@ -231,8 +231,12 @@ fn keeps_texts_bytes_and_pixels(rt: HostRuntime) -> Result<(), Fail> {
     assert_eq!(rt; text.as_str(), "clip");
     let bytes = Bytes::new([1, 2].to_vec(alloc)?);
     assert_eq!(rt; bytes.as_slice(), [1, 2].as_slice());
-    let still = Still::new(2, 1, [1, 2, 3, 4, 5, 6, 7, 8].to_vec(alloc)?);
+    let still = Still::from_pixels(2, 1, [1, 2, 3, 4, 5, 6, 7, 8].to_vec(alloc)?);
     assert_eq!(rt; (still.width(), still.height()), (2, 1));
     assert_eq!(rt; still.pixels(), [1, 2, 3, 4, 5, 6, 7, 8].as_slice());
+    let mut blank = Still::new(alloc, 1, 1)?;
+    assert_eq!(rt; blank.pixels(), [0, 0, 0, 0].as_slice());
+    blank.pixels_mut().fill(9);
+    assert_eq!(rt; blank.pixels(), [9, 9, 9, 9].as_slice());
     Ok(())
 }

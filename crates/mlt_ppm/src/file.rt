@@ -41,7 +41,7 @@ fn picture(alloc: Global, numbers: Numbers, raster: &[u8]) -> Result<Still, Try<
         return Err(Try::Fault(PpmFault::Short(raster.len() as u64, needed as u64)));
     }
     let pixels = pixels(alloc, &Scale::new(numbers.maxval), raster, count)?;
-    Ok(Still::new(numbers.width, numbers.height, pixels))
+    Ok(Still::from_pixels(numbers.width, numbers.height, pixels))
 }
 
 /// Reads a binary PPM file. Each alpha is 255.

@@ -104,7 +104,7 @@ fn cut_at_every_byte(rt: HostRuntime) {
 #[test]
 fn writes_and_reads(rt: HostRuntime) -> Result<(), Fail> {
     let alloc = rt.alloc();
-    let one = Still::new(1, 1, [10, 20, 30, 255].to_vec(alloc)?);
+    let one = Still::from_pixels(1, 1, [10, 20, 30, 255].to_vec(alloc)?);
     assert_eq!(rt;
         write(alloc, &one)?.as_slice(),
         b"P6\n1 1\n255\n\x0a\x14\x1e".as_slice()
