@@ -5,6 +5,9 @@ pub mod Groups
 pub mod Times
 pub mod Keys
 pub mod Forms
+pub mod Stops
+pub mod NumeralStops
+pub mod WholeStops
 pub mod WholeForms
 pub mod ProfileForms
 pub mod GeometryForms
