@@ -8,6 +8,7 @@ pub mod Forms
 pub mod Stops
 pub mod NumeralStops
 pub mod WholeStops
+pub mod DecimalStops
 pub mod WholeForms
 pub mod ProfileForms
 pub mod GeometryForms

@@ -1,15 +1,16 @@
 -- Where a reader meets what doesn't fit: it refuses each text that begins with the same bytes, so the text leaves the
 -- grammar there.
-use Rattle.std.proofs.Common.{◌≡◌, ℕ, suc, ◌+◌, ◌-◌, ◌^◌, ◌<◌, ◌≤◌, ◌⊎◌, ◌↔◌, inl, inr, Bool, true, false, cond, List, [], ◌∷◌, ◌++◌, length, take, drop, Result, Ok, Err, refl, sym, ap, subst, ◌∙◌, arith, append_assoc, length-append}
+use Rattle.std.proofs.Common.{◌≡◌, ℕ, suc, ◌+◌, ◌-◌, ◌^◌, ◌<◌, ◌≤◌, ◌⊎◌, ◌↔◌, inl, inr, Bool, true, false, cond, ltb, List, [], ◌∷◌, ◌++◌, length, take, drop, Result, Ok, Err, refl, sym, ap, subst, ◌∙◌, arith, append_assoc, length-append}
 use Rattle.std.specs.Char.{is_ascii_digit}
 use Rattle.std.proofs.Math.Seq.{take-add, take-append-add}
 use Rattle.std.proofs.lemmas.Bool.{cases_lt}
 use Rattle.std.proofs.lemmas.List.{take_at, take-take, length-take-le}
 use Rattle.mlt_base.specs.declared.fault.NumFault.{NumFault}
 use Rattle.mlt_base.specs.declared.fault.NumFault.TheVariants.{Empty, BadDigit, TooLarge}
-use Rattle.mlt_base.specs.Reading.{held, digit_count}
+use Rattle.mlt_base.specs.Reading.{held, digit_count, below}
 use Rattle.mlt_base.specs.Steps.{◌>>=◌}
 use Rattle.mlt_base.specs.Stop.{Begins, StopsAt}
+use Rattle.mlt_base.proofs.Below.{below_ok}
 
 -- ---- a text leaves a grammar at one place
 
@@ -139,6 +140,17 @@ told_then Nothing Good read f at text (Wrong k stuck begins) = Wrong k (record {
 -- the value of a good text, or that it is too large
 abbrev pub Sized : {A : Type 0} → Result A NumFault → Type 0
 Sized r = ((x : _) × (r ≡ Ok x)) ⊎ (r ≡ Err TooLarge)
+
+pub below_sized : (limit n : ℕ) → Sized (below limit n)
+unfolding below
+below_sized limit n = go (ltb n limit)
+  where
+    go : (t : Bool) → Sized (cond t (Ok n) (Err TooLarge))
+    go true = inl (n, refl)
+    go false = inr refl
+
+pub below_unfit : (limit n : ℕ) → below limit n ≡ Err TooLarge → limit ≤ n
+below_unfit limit n e = elim (cases_lt n limit) [ inl lt ↦ absurd (let is = below_ok limit n n lt refl in cc) | inr le ↦ le ]
 
 module _ {A : Type 0} (Nothing Good : List ℕ → Type 0) (read : List ℕ → Result A NumFault)
     (told : (text : List ℕ) → Told Nothing Good read 0 text) (missing : (text : List ℕ) → Nothing text → read text ≡ Err Empty) (sized : (text : List ℕ) → Good text → Sized (read text)) where

@@ -46,6 +46,14 @@ pub fn decimals()
     ensures only { (text : List ℕ) (n : ℕ) → decimal 0 text ≡ Ok n → IsDecimal text n × (n < 2 ^ 32) }
 {}
 
+/// What each fault of a decimal number says. A bad digit is the place where the text can't go on as a
+/// decimal number, or ends too soon, as `.` alone does behind its only byte.
+pub fn decimal_faults()
+    ensures empty { (text : List ℕ) → decimal 0 text ≡ Err Empty ↔ (text ≡ []) }
+    ensures bad_digit { (text : List ℕ) (at : ℕ) → length text < 2 ^ 32 → decimal 0 text ≡ Err (BadDigit at) ↔ ((text ≢ []) × StopsAt (Texts IsDecimal) text at) }
+    ensures too_large { (text : List ℕ) → decimal 0 text ≡ Err TooLarge → (n : ℕ) × IsDecimal text n × (2 ^ 32 ≤ n) }
+{}
+
 /// Exactly the times below frame 2^31 are read, each as the frame that its form means; the others are
 /// too large.
 pub fn times()
