@@ -11,7 +11,7 @@ use Rattle.mlt_base.specs.Decimal.{fraction_at, point_at, decimal_parts, decimal
 use Rattle.mlt_base.specs.Grammar.{IsDecimal, IsDecimalText}
 use Rattle.mlt_base.proofs.Forms.{AreDigits-take, AreDigits-all, digit_count-append, digit_count-le, digits_end}
 use Rattle.mlt_base.proofs.DecimalForms.{parts_begin, whole_decimal}
-use Rattle.mlt_base.proofs.Stops.{Told, Missing, Right, Never, Sized, below_sized, below_unfit, first_none, first_is, first_no_digit, wrong_here, told_behind, told_then}
+use Rattle.mlt_base.proofs.Stops.{Told, Missing, Right, Never, IsNone, Sized, below_sized, below_unfit, first_none, first_is, first_no_digit, wrong_here, told_behind, told_then}
 use Rattle.mlt_base.proofs.NumeralStops.{zero_numeral, one_more}
 
 -- digits on both sides of the `.`, one at least
@@ -84,10 +84,6 @@ point_told at whole (b ∷ rest) hw some = go (eqb b 46) refl
         wrong_here Never Good (point_at at whole) at (b ∷ rest) (48 ∷ [])
         (λ other e. let (behind, is) = first_is other b e in ap (point_at at whole) is ∙ rw h refl)
         (decimal_there (whole ++ 48 ∷ []) (whole ++ 48 ∷ []) [] more.1 tt (omega (arith, more.0)) (inl (refl, refl)))
-
--- no byte
-abbrev pub IsNone : List ℕ → Type 0
-IsNone text = text ≡ []
 
 parts_told : (at : ℕ) (text : List ℕ) → Told IsNone (Texts IsDecimal) (decimal_parts at) at text
 parts_told at [] = Missing refl

@@ -9,6 +9,7 @@ pub mod Stops
 pub mod NumeralStops
 pub mod WholeStops
 pub mod DecimalStops
+pub mod TimeStops
 pub mod WholeForms
 pub mod ProfileForms
 pub mod GeometryForms

@@ -95,6 +95,10 @@ pub data Told {A : Type 0} (Nothing Good : List ℕ → Type 0) (read : List ℕ
 abbrev pub Never : List ℕ → Type 0
 Never text = ⊥
 
+-- no byte
+abbrev pub IsNone : List ℕ → Type 0
+IsNone text = text ≡ []
+
 module _ {A : Type 0} where
   -- it doesn't fit at once
   pub wrong_here : (Nothing Good : List ℕ → Type 0) (read : List ℕ → Result A NumFault) (at : ℕ) (rest more : List ℕ)

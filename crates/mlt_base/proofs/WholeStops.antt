@@ -10,13 +10,9 @@ use Rattle.mlt_base.specs.Steps.{◌>>=◌}
 use Rattle.mlt_base.specs.Stop.{Texts}
 use Rattle.mlt_base.specs.Whole.{digits_to_end, positive, negative, whole}
 use Rattle.mlt_base.specs.Grammar.{IsWhole, whole_text, whole_value}
-use Rattle.mlt_base.proofs.Stops.{Told, Missing, Never, Sized, first_is, told_behind, told_as, told_then}
+use Rattle.mlt_base.proofs.Stops.{Told, Missing, Never, IsNone, Sized, first_is, told_behind, told_as, told_then}
 use Rattle.mlt_base.proofs.NumeralStops.{numeral_told}
 use Rattle.mlt_base.proofs.WholeForms.{whole_again, whole_accepted}
-
--- nothing stands where a numeral should
-abbrev IsNone : List ℕ → Type 0
-IsNone text = text ≡ []
 
 to_end_told : (at : ℕ) (bytes : List ℕ) → Told IsNone IsNumeral (digits_to_end at) at bytes
 unfolding digits_to_end

@@ -62,6 +62,14 @@ pub fn times()
     ensures only { (num den : ℕ) (text : List ℕ) (n : ℕ) → time num den text ≡ Ok n → (form : Form) × IsTime text form × (n ≡ frames_of num den form) × (n < 2 ^ 31) }
 {}
 
+/// What each fault of a time says. A bad digit is the place where the text can't go on as a time, or ends
+/// too soon.
+pub fn time_faults()
+    ensures empty { (num den : ℕ) (text : List ℕ) → time num den text ≡ Err Empty ↔ (text ≡ []) }
+    ensures bad_digit { (num den : ℕ) (text : List ℕ) (at : ℕ) → length text < 2 ^ 32 → time num den text ≡ Err (BadDigit at) ↔ ((text ≢ []) × StopsAt (Texts IsTime) text at) }
+    ensures too_large { (num den : ℕ) (text : List ℕ) → time num den text ≡ Err TooLarge → (form : Form) × IsTime text form × (2 ^ 31 ≤ frames_of num den form) }
+{}
+
 /// Exactly the names of the table and the spelled profiles within the limits are read, each as its
 /// measures.
 pub fn profiles()

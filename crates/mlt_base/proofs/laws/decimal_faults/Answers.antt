@@ -1,8 +1,8 @@
 use Rattle.mlt_base.specs.Stop.{Texts}
 use Rattle.mlt_base.specs.Decimal.{decimal}
 use Rattle.mlt_base.specs.Grammar.{IsDecimal}
-use Rattle.mlt_base.proofs.Stops.{law_empty, law_bad, law_large}
-use Rattle.mlt_base.proofs.DecimalStops.{IsNone, decimal_told, decimal_missing, decimal_sized, decimal_unfit}
+use Rattle.mlt_base.proofs.Stops.{IsNone, law_empty, law_bad, law_large}
+use Rattle.mlt_base.proofs.DecimalStops.{decimal_told, decimal_missing, decimal_sized, decimal_unfit}
 use Rattle.mlt_base.proofs.laws.decimal_faults.Goals as goal
 
 pub returns-clause-empty : goal.returns-clause-empty
