@@ -64,7 +64,7 @@ pub decimal_takes : (text : List ℕ) (n : ℕ) → decimal 0 text ≡ Ok n → 
 decimal_takes text n e = decimal_takes-at 0 text n e
 
 -- the parts are found again
-parts_begin : (at : ℕ) (bytes : List ℕ) → 0 < length bytes → decimal_parts at bytes ≡ point_at (at + digit_count bytes) (take (digit_count bytes) bytes) (drop (digit_count bytes) bytes)
+pub parts_begin : (at : ℕ) (bytes : List ℕ) → 0 < length bytes → decimal_parts at bytes ≡ point_at (at + digit_count bytes) (take (digit_count bytes) bytes) (drop (digit_count bytes) bytes)
 unfolding decimal_parts
 parts_begin at [] h = absurd (omega arith)
 parts_begin at (b ∷ bytes) h = refl
@@ -86,7 +86,7 @@ parts_again at text whole fraction hw hf some (inr is) =
     let one : eqb (length whole + length fraction) 0 ≡ false = ne_eqb (length whole + length fraction) 0 (λ e. omega arith) in
     ap (decimal_parts at) is ∙ (parts_begin at (whole ++ 46 ∷ fraction) (omega (arith, length-append whole (46 ∷ fraction))) ∙ rw (n, front, rest, all, ended, one) refl)
 
-whole_decimal : (at : ℕ) (text : List ℕ) (n : ℕ) → IsDecimal text n → decimal at text ≡ below (2 ^ 32) n
+pub whole_decimal : (at : ℕ) (text : List ℕ) (n : ℕ) → IsDecimal text n → decimal at text ≡ below (2 ^ 32) n
 unfolding decimal
 whole_decimal at text n (whole, fraction, hw, hf, some, spelled, is) = rw (parts_again at text whole fraction hw hf some spelled, is) refl
 

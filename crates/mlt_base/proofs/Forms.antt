@@ -61,6 +61,15 @@ digit_count-le (b ∷ bytes) = go (is_ascii_digit b) (digit_count-le bytes)
 pub AreDigits-all : (bytes : List ℕ) → digit_count bytes ≡ length bytes → AreDigits bytes
 AreDigits-all bytes e = subst AreDigits (rw e (take-length bytes)) (AreDigits-take bytes)
 
+-- no digit stands behind all of them
+pub digits_end : (bytes : List ℕ) → digit_count (drop (digit_count bytes) bytes) ≡ 0
+digits_end [] = refl
+digits_end (b ∷ bytes) = go (is_ascii_digit b) refl (digits_end bytes)
+  where
+    go : (t : Bool) → is_ascii_digit b ≡ t → digit_count (drop (digit_count bytes) bytes) ≡ 0 → digit_count (drop (cond t (digit_count bytes + 1) 0) (b ∷ bytes)) ≡ 0
+    go true e h = rw add-one h
+    go false e h = rw e refl
+
 -- ---- a numeral
 
 pub record TakesNumeral (at : ℕ) (bytes : List ℕ) (x : List ℕ × ℕ × List ℕ) : Type 0 where

@@ -5,6 +5,11 @@ pub mod Groups
 pub mod Times
 pub mod Keys
 pub mod Forms
+pub mod Stops
+pub mod NumeralStops
+pub mod WholeStops
+pub mod DecimalStops
+pub mod TimeStops
 pub mod WholeForms
 pub mod ProfileForms
 pub mod GeometryForms

@@ -1,9 +1,8 @@
 -- PPM: what is read is a picture of the grammar, each of the grammar is read, and what each fault says.
-use Rattle.std.proofs.Common.{◌≡◌, ◌≢◌, ℕ, ◌+◌, ◌-◌, ◌*◌, ◌<◌, ◌≤◌, ◌⊎◌, inl, inr, Bool, true, false, eqb, ltb, ◌&&◌, List, [], ◌∷◌, ◌++◌, length, take, drop, Ok, Err, refl, sym, ap, subst, ◌∙◌, arith, append_assoc}
+use Rattle.std.proofs.Common.{◌≡◌, ◌≢◌, ℕ, ◌+◌, ◌*◌, ◌<◌, ◌≤◌, ◌⊎◌, inl, inr, Bool, true, false, eqb, ltb, ◌&&◌, List, [], ◌∷◌, ◌++◌, length, take, drop, Ok, Err, refl, sym, ap, subst, ◌∙◌, arith}
 use Rattle.std.specs.Prelude.{nat_eq, codes}
 use Rattle.std.specs.List.{starts_with}
-use Rattle.std.proofs.Math.Seq.{take-add}
-use Rattle.std.proofs.lemmas.Bool.{cases_lt, eqb-true, ltb-true, ltb-false}
+use Rattle.std.proofs.lemmas.Bool.{eqb-true, ltb-true, ltb-false}
 use Rattle.mlt_base.specs.declared.fault.PpmFault.TheVariants.{NotP6, BadHeader, TooLarge, Short}
 use Rattle.mlt_base.specs.Still.{Picture}
 use Rattle.mlt_base.specs.Reading.{number}
@@ -12,23 +11,6 @@ use Rattle.mlt_base.specs.Stop.{StopsAt}
 use Rattle.mlt_base.specs.Ppm.{raster_pixels, needed, IsField, IsRaster, IsText, HasHeader, IsRasterOf, IsPpm, IsSide, IsDepth, IsBadNumber, AreNumbers, IsLarge, IsShort, Numbers, header, picture, ppm}
 use Rattle.mlt_base.proofs.PpmFields.{digits_in, rest_in, parts_of, field_no_digit, raster_no_digit}
 use Rattle.mlt_base.proofs.PpmHeaders.{Goes, goes, end_of, numbers_in, header_found, Says, HeaderCase, Bad, Said, header_case, step_ok, step_err}
-
--- ---- a text leaves a grammar at one place
-
-stops_before : (Good : List ℕ → Type 0) (text : List ℕ) (a b : ℕ) → a < b → StopsAt Good text a → ¬ StopsAt Good text b
-stops_before Good text a b less first second =
-    let (rest, good) = second.before in
-    let k : ℕ = b - (a + 1) in
-    let sum : b ≡ a + 1 + k = omega arith in
-    let split : take b text ++ rest ≡ take (a + 1) text ++ (take k (drop (a + 1) text) ++ rest) = ap (λ (l : List ℕ). l ++ rest) (ap (λ (n : ℕ). take n text) sum ∙ take-add (a + 1) k text) ∙ append_assoc (take (a + 1) text) (take k (drop (a + 1) text)) rest in
-    first.behind (omega (arith, second.within)) (take k (drop (a + 1) text) ++ rest, subst Good split good)
-
-pub stops_once : (Good : List ℕ → Type 0) (text : List ℕ) (a b : ℕ) → StopsAt Good text a → StopsAt Good text b → a ≡ b
-stops_once Good text a b first second =
-    elim (cases_lt a b) [
-      | inl lt ↦ absurd (stops_before Good text a b lt first second)
-      | inr le ↦ elim (cases_lt b a) [ inl lt ↦ absurd (stops_before Good text b a lt second first) | inr ge ↦ omega arith ]
-    ]
 
 -- ---- `P6`
 

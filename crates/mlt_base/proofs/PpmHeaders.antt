@@ -9,7 +9,7 @@ use Rattle.mlt_base.specs.Reading.{digit_count, number}
 use Rattle.mlt_base.specs.Steps.{◌>>=◌}
 use Rattle.mlt_base.specs.Stop.{StopsAt}
 use Rattle.mlt_base.specs.Ppm.{is_white, blank_count, number_at, field_at, white_at, Numbers, header, IsField, IsRaster, IsText, HasHeader, IsSide, IsDepth, IsBad, IsBehind, IsBadNumber}
-use Rattle.mlt_base.proofs.Forms.{digit_count-le}
+use Rattle.mlt_base.proofs.Forms.{digit_count-le, digits_end}
 use Rattle.mlt_base.proofs.PpmCounts.{blank_count-le, counted_separator}
 use Rattle.mlt_base.proofs.PpmFields.{behind, digits_in, rest_in, NoDigit, CanFollow, numeral_in, joined_in, field_of, field_no_digit, raster_no_digit, can_field, stops_at_blank, stops_at_number, stops_behind, stops_at_raster, stops_behind_p6}
 
@@ -79,14 +79,6 @@ unfolding white_at
 white_found at white raster e = rw e refl
 
 -- ---- numbers out of range
-
-digits_end : (bytes : List ℕ) → digit_count (drop (digit_count bytes) bytes) ≡ 0
-digits_end [] = refl
-digits_end (b ∷ bytes) = go (is_ascii_digit b) refl (digits_end bytes)
-  where
-    go : (t : Bool) → is_ascii_digit b ≡ t → digit_count (drop (digit_count bytes) bytes) ≡ 0 → digit_count (drop (cond t (digit_count bytes + 1) 0) (b ∷ bytes)) ≡ 0
-    go true e h = rw add-one h
-    go false e h = rw e refl
 
 some_behind : (text : List ℕ) → 0 < digit_count (behind text) → 0 < length (behind text)
 some_behind text h = omega (arith, digit_count-le (behind text))

@@ -59,11 +59,11 @@ seconds_take h m s at (b ∷ rest) form clock e = go (eqb b 58) (eqb b 46) refl 
     go false false hc hp e = absurd cc
 
 -- the fields of a clock, and what stands behind them
-regroup : (h m s rest : List ℕ) → clock_text h m s ++ rest ≡ h ++ 58 ∷ (m ++ 58 ∷ (s ++ rest))
+pub regroup : (h m s rest : List ℕ) → clock_text h m s ++ rest ≡ h ++ 58 ∷ (m ++ 58 ∷ (s ++ rest))
 regroup h m s rest = append_assoc h (58 ∷ (m ++ 58 ∷ s)) rest ∙ ap (λ (x : List ℕ). h ++ 58 ∷ x) (append_assoc m (58 ∷ s) rest)
 
 -- behind the minutes: `:`, seconds and what stands behind them
-abbrev behind_minutes : List ℕ → List ℕ → ℕ → List ℕ → Result Form NumFault
+abbrev pub behind_minutes : List ℕ → List ℕ → ℕ → List ℕ → Result Form NumFault
 behind_minutes h m at bytes = mark_at 58 at bytes >>= λ second. digits_at second.0 second.1 >>= λ seconds. behind_seconds h m seconds.0 seconds.1 seconds.2
 
 minutes_take : (h m : List ℕ) (at : ℕ) (bytes : List ℕ) (form : Form) → IsNumeral h → IsNumeral m → behind_minutes h m at bytes ≡ Ok form → IsTime (h ++ 58 ∷ (m ++ bytes)) form
@@ -155,7 +155,7 @@ form_again text (Clock h m s fraction) (clock, inr (numeral, short, is)) =
 form_again text (Counted h m s frames) (clock, numeral, is) =
     ap form_of is ∙ (clock_again h m s (58 ∷ frames) clock refl ∙ rw (last_again (end_of h m s + 1) frames numeral) refl)
 
-whole_time : (num den : ℕ) (text : List ℕ) (form : Form) → IsTime text form → time num den text ≡ below (2 ^ 31) (frames_of num den form)
+pub whole_time : (num den : ℕ) (text : List ℕ) (form : Form) → IsTime text form → time num den text ≡ below (2 ^ 31) (frames_of num den form)
 unfolding time
 whole_time num den text form h = rw (form_again text form h) refl
 

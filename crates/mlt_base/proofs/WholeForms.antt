@@ -72,7 +72,7 @@ whole_takes (b ∷ bytes) z e = go (eqb b 45) refl e
         ((false, b ∷ bytes, d.0, refl, v.0 ∙ ap (λ (ds : List ℕ). pos (number ds)) d.1), v.1)
 
 -- without regard to its size
-whole_again : (negative_sign : Bool) (digits : List ℕ) → IsNumeral digits → whole (whole_text negative_sign digits) ≡ cond negative_sign (negative (number digits)) (positive (number digits))
+pub whole_again : (negative_sign : Bool) (digits : List ℕ) → IsNumeral digits → whole (whole_text negative_sign digits) ≡ cond negative_sign (negative (number digits)) (positive (number digits))
 unfolding whole
 whole_again true digits h = rw (to_end_again 1 digits h) refl
 whole_again false [] h = absurd (omega (arith, h.0))

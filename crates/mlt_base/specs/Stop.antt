@@ -1,6 +1,10 @@
 -- Where a text leaves a grammar, said for any grammar.
 use Rattle.std.specs.Prelude.{ℕ, ◌+◌, ◌<◌, ◌≤◌, List, ◌++◌, length, take}
 
+-- the texts of a grammar, whatever they mean
+abbrev pub Texts : {X : Type 0} → (List ℕ → X → Type 0) → List ℕ → Type 0
+Texts Is text = (x : _) × Is text x
+
 -- some good text begins so
 abbrev pub Begins : (List ℕ → Type 0) → List ℕ → Type 0
 Begins Good front = (rest : List ℕ) × Good (front ++ rest)

@@ -4,10 +4,10 @@
 //! Each function here does nothing; its contract is the law, over the definitions that the readers
 //! meet exactly.
 
-ghost use Rattle.std.specs.Prelude.{◌≡◌, ◌≢◌, ℕ, ◌^◌, ◌<◌, ◌≤◌, ◌⊎◌, ℤ, FitsSigned, List, [], ◌∷◌, ◌++◌, Some, None, Ok, Err};
+ghost use Rattle.std.specs.Prelude.{◌≡◌, ◌≢◌, ℕ, ◌^◌, ◌<◌, ◌≤◌, ◌⊎◌, ◌↔◌, ℤ, FitsSigned, List, [], ◌∷◌, ◌++◌, length, Some, None, Ok, Err};
 ghost use Rattle.std.specs.Int.{w64};
 ghost use Rattle.std.specs.List.{All};
-ghost use Rattle.mlt_base.specs.declared.fault.NumFault.TheVariants.{TooLarge};
+ghost use Rattle.mlt_base.specs.declared.fault.NumFault.TheVariants.{Empty, BadDigit, TooLarge};
 ghost use Rattle.mlt_base.specs.declared.fault.PpmFault.TheVariants as picture;
 ghost use Rattle.mlt_base.specs.Whole.{whole};
 ghost use Rattle.mlt_base.specs.Decimal.{decimal};
@@ -19,7 +19,7 @@ ghost use Rattle.mlt_base.specs.Name.{name_of};
 ghost use Rattle.mlt_base.specs.Profile.{Measures, row_measures, profile};
 ghost use Rattle.mlt_base.specs.Geometry.{Rectangle, geometry};
 ghost use Rattle.mlt_base.specs.Still.{Picture};
-ghost use Rattle.mlt_base.specs.Stop.{StopsAt};
+ghost use Rattle.mlt_base.specs.Stop.{Texts, StopsAt};
 ghost use Rattle.mlt_base.specs.Ppm.{HasHeader, IsPpm, IsLarge, IsShort, IsBadNumber, ppm};
 ghost use Rattle.mlt_base.specs.Grammar.{IsWhole, IsDecimal, IsTime, IsNamed, IsProfile, IsWithin, IsGeometry, IsAnimation, AreHeld};
 
@@ -30,6 +30,14 @@ pub fn whole_numbers()
     ensures only { (text : List ℕ) (z : ℤ) → whole text ≡ Ok z → IsWhole text z × FitsSigned w64 z }
 {}
 
+/// What each fault of a whole number says. A bad digit is the place where the text can't go on as a whole
+/// number, or ends too soon; a text without a byte, and `-` alone, are empty instead.
+pub fn whole_faults()
+    ensures empty { (text : List ℕ) → whole text ≡ Err Empty ↔ ((text ≡ []) ⊎ (text ≡ 45 ∷ [])) }
+    ensures bad_digit { (text : List ℕ) (at : ℕ) → length text < 2 ^ 32 → whole text ≡ Err (BadDigit at) ↔ ((text ≢ []) × (text ≢ 45 ∷ []) × StopsAt (Texts IsWhole) text at) }
+    ensures too_large { (text : List ℕ) → whole text ≡ Err TooLarge → (z : ℤ) × IsWhole text z × ¬ FitsSigned w64 z }
+{}
+
 /// Exactly the decimal numbers below 65536 are read, each as its 65536ths, rounded down; the others
 /// are too large.
 pub fn decimals()
@@ -38,12 +46,28 @@ pub fn decimals()
     ensures only { (text : List ℕ) (n : ℕ) → decimal 0 text ≡ Ok n → IsDecimal text n × (n < 2 ^ 32) }
 {}
 
+/// What each fault of a decimal number says. A bad digit is the place where the text can't go on as a
+/// decimal number, or ends too soon, as `.` alone does behind its only byte.
+pub fn decimal_faults()
+    ensures empty { (text : List ℕ) → decimal 0 text ≡ Err Empty ↔ (text ≡ []) }
+    ensures bad_digit { (text : List ℕ) (at : ℕ) → length text < 2 ^ 32 → decimal 0 text ≡ Err (BadDigit at) ↔ ((text ≢ []) × StopsAt (Texts IsDecimal) text at) }
+    ensures too_large { (text : List ℕ) → decimal 0 text ≡ Err TooLarge → (n : ℕ) × IsDecimal text n × (2 ^ 32 ≤ n) }
+{}
+
 /// Exactly the times below frame 2^31 are read, each as the frame that its form means; the others are
 /// too large.
 pub fn times()
     ensures accepted { (num den : ℕ) (text : List ℕ) (form : Form) → IsTime text form → frames_of num den form < 2 ^ 31 → time num den text ≡ Ok (frames_of num den form) }
     ensures large { (num den : ℕ) (text : List ℕ) (form : Form) → IsTime text form → 2 ^ 31 ≤ frames_of num den form → time num den text ≡ Err TooLarge }
     ensures only { (num den : ℕ) (text : List ℕ) (n : ℕ) → time num den text ≡ Ok n → (form : Form) × IsTime text form × (n ≡ frames_of num den form) × (n < 2 ^ 31) }
+{}
+
+/// What each fault of a time says. A bad digit is the place where the text can't go on as a time, or ends
+/// too soon.
+pub fn time_faults()
+    ensures empty { (num den : ℕ) (text : List ℕ) → time num den text ≡ Err Empty ↔ (text ≡ []) }
+    ensures bad_digit { (num den : ℕ) (text : List ℕ) (at : ℕ) → length text < 2 ^ 32 → time num den text ≡ Err (BadDigit at) ↔ ((text ≢ []) × StopsAt (Texts IsTime) text at) }
+    ensures too_large { (num den : ℕ) (text : List ℕ) → time num den text ≡ Err TooLarge → (form : Form) × IsTime text form × (2 ^ 31 ≤ frames_of num den form) }
 {}
 
 /// Exactly the names of the table and the spelled profiles within the limits are read, each as its

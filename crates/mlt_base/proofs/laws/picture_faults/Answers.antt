@@ -1,5 +1,6 @@
 use Rattle.mlt_base.specs.Ppm.{HasHeader}
-use Rattle.mlt_base.proofs.PpmForms.{stops_once, ppm_other, ppm_wrong, ppm_large, ppm_short}
+use Rattle.mlt_base.proofs.Stops.{stops_once}
+use Rattle.mlt_base.proofs.PpmForms.{ppm_other, ppm_wrong, ppm_large, ppm_short}
 use Rattle.mlt_base.proofs.laws.picture_faults.Goals as goal
 
 pub returns-clause-not_p6 : goal.returns-clause-not_p6
