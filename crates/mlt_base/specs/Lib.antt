@@ -22,3 +22,4 @@ pub mod Mixing
 pub mod Still
 pub mod Stop
 pub mod Ppm
+pub mod Fitting
