@@ -20,6 +20,7 @@ pub mod Rising
 pub mod Values
 pub mod Names
 mod MixingRows
+mod FittingRows
 pub mod PpmRows
 pub mod PpmBlanks
 pub mod PpmCounts

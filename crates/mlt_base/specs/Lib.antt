@@ -24,3 +24,4 @@ pub mod StillLends
 pub mod Stop
 pub mod Ppm
 pub mod Walk
+pub mod Fitting
