@@ -213,5 +213,8 @@ pub(crate) fn seal(
     } = made;
     inherited.end();
     let sealed = sealed(count, graph, level)?;
-    Ok((show_of_tree(alloc, count, profile, consumer, sealed)?, table))
+    Ok((
+        show_of_tree(alloc, count, profile, consumer, sealed)?,
+        table,
+    ))
 }

@@ -176,7 +176,10 @@ fn cause_pieces(cause: Cause) -> [Piece; 6]
             NOTHING,
             NOTHING,
         ],
-        Cause::BadClip { index, count: there } => [
+        Cause::BadClip {
+            index,
+            count: there,
+        } => [
             Words("no clip at "),
             count(index),
             Words(" of "),

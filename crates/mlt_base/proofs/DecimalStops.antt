@@ -1,11 +1,9 @@
 -- Decimal numbers: the place where a text can't go on.
-use Rattle.std.proofs.Common.{◌≡◌, ℕ, ◌+◌, ◌^◌, ◌<◌, ◌≤◌, ◌⊎◌, inl, inr, Bool, true, false, cond, eqb, ltb, ◌||◌, List, [], ◌∷◌, ◌++◌, length, take, drop, Result, Ok, Err, refl, sym, ap, subst, ◌∙◌, arith, append-nil, length-append, length-drop}
-use Rattle.std.proofs.lemmas.Bool.{cases_lt, eqb-true, eq-eqb, ne_eqb, lt-ltb, le-ltb}
+use Rattle.std.proofs.Common.{◌≡◌, ℕ, ◌+◌, ◌^◌, ◌<◌, ◌≤◌, ◌⊎◌, inl, inr, Bool, true, false, eqb, ltb, List, [], ◌∷◌, ◌++◌, length, take, drop, Err, refl, sym, ap, subst, ◌∙◌, arith, append-nil, length-append, length-drop}
+use Rattle.std.proofs.lemmas.Bool.{cases_lt, eqb-true, lt-ltb}
 use Rattle.std.proofs.lemmas.List.{take-append-drop, take_at, drop_at, nil_from_length}
-use Rattle.mlt_base.specs.declared.fault.NumFault.{NumFault}
 use Rattle.mlt_base.specs.declared.fault.NumFault.TheVariants.{Empty, BadDigit, TooLarge}
-use Rattle.mlt_base.specs.Reading.{held, AreDigits, IsNumeral, digit_count, below}
-use Rattle.mlt_base.specs.Steps.{◌>>=◌}
+use Rattle.mlt_base.specs.Reading.{held, AreDigits, digit_count, below}
 use Rattle.mlt_base.specs.Stop.{Texts}
 use Rattle.mlt_base.specs.Decimal.{fraction_at, point_at, decimal_parts, decimal_value, decimal}
 use Rattle.mlt_base.specs.Grammar.{IsDecimal, IsDecimalText}
@@ -56,10 +54,10 @@ fraction_told at whole fraction hw = go (cases_lt n (length fraction)) (cases_lt
         let more = one_more front (AreDigits-take fraction) in
         subst (Told Never Good (fraction_at at whole) at) (take-append-drop n fraction)
         (told_behind Never Good Never (λ t. Good (front ++ t)) (fraction_at at whole) (λ other. Err (BadDigit (held (at + length front)))) at front rest
-            (λ other e. fraction_refuses at whole front other (AreDigits-take fraction) (first_no_digit other rest e (digits_end fraction)) (some_first other rest e (omega (arith, length-drop n fraction))))
-            (λ other h. h) (λ other h. h)
-            (wrong_here Never (λ t. Good (front ++ t)) (λ other. Err (BadDigit (held (at + length front)))) (at + length front) rest (48 ∷ []) (λ other e. refl)
-                (decimal_there (whole ++ 46 ∷ (front ++ 48 ∷ [])) whole (front ++ 48 ∷ []) hw more.1 (omega (arith, more.0)) (inr refl))))
+        (λ other e. fraction_refuses at whole front other (AreDigits-take fraction) (first_no_digit other rest e (digits_end fraction)) (some_first other rest e (omega (arith, length-drop n fraction))))
+        (λ other h. h) (λ other h. h)
+        (wrong_here Never (λ t. Good (front ++ t)) (λ other. Err (BadDigit (held (at + length front)))) (at + length front) rest (48 ∷ []) (λ other e. refl)
+        (decimal_there (whole ++ 46 ∷ (front ++ 48 ∷ [])) whole (front ++ 48 ∷ []) hw more.1 (omega (arith, more.0)) (inr refl))))
     go (inr all) (inl some) = Right (decimal_there (whole ++ 46 ∷ fraction) whole fraction hw (AreDigits-all fraction (omega (arith, digit_count-le fraction))) some (inr refl))
     go (inr all) (inr none) =
         let no_fraction : fraction ≡ [] = nil_from_length fraction (omega arith) in
@@ -90,8 +88,8 @@ parts_told at [] = Missing refl
 parts_told at (b ∷ bytes) =
     subst (Told IsNone (Texts IsDecimal) (decimal_parts at) at) both
     (told_behind IsNone (Texts IsDecimal) Never (λ t. Texts IsDecimal (whole ++ t)) (decimal_parts at) (point_at (at + length whole) whole) at whole rest
-        (λ other e. reads other (first_no_digit other rest e (digits_end text)) (lasting other e)) (λ other h. absurd h) (λ other h. h)
-        (point_told (at + length whole) whole rest (AreDigits-take text) (omega (arith, length-append whole rest, ap length both))))
+    (λ other e. reads other (first_no_digit other rest e (digits_end text)) (lasting other e)) (λ other h. absurd h) (λ other h. h)
+    (point_told (at + length whole) whole rest (AreDigits-take text) (omega (arith, length-append whole rest, ap length both))))
   where
     text : List ℕ
     text = b ∷ bytes

@@ -1,8 +1,7 @@
 -- Pictures brought to another size, tried on small ones: each line is checked by computing both of its sides.
 use Rattle.std.specs.Prelude.{◌≡◌, [], ◌∷◌, refl}
-use Rattle.mlt_base.specs.Still.{Picture}
 use Rattle.mlt_base.specs.Mixing.{table}
-use Rattle.mlt_base.specs.Fitting.{inner, inset, fitted, stretched}
+use Rattle.mlt_base.specs.Fitting.{fitted, stretched}
 
 -- one pixel fitted to 2 by 1: it stands on the left, and the other is transparent black
 one_to_two : table 8 (fitted (record { width = 1; height = 1; pixels = 10 ∷ 20 ∷ 30 ∷ 255 ∷ [] }) 2 1) ≡ 10 ∷ 20 ∷ 30 ∷ 255 ∷ 0 ∷ 0 ∷ 0 ∷ 0 ∷ []

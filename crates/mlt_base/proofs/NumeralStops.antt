@@ -1,5 +1,5 @@
 -- Where the pieces of a grammar can't go on: a numeral, a mark and the end of a text.
-use Rattle.std.proofs.Common.{◌≡◌, ℕ, ◌+◌, ◌<◌, Bool, true, false, cond, eqb, List, [], ◌∷◌, ◌++◌, length, take, drop, Result, Ok, Err, refl, sym, ap, subst, ◌∙◌, arith, append-nil, length-append}
+use Rattle.std.proofs.Common.{◌≡◌, ℕ, ◌+◌, Bool, true, false, eqb, List, [], ◌∷◌, ◌++◌, length, take, drop, Result, Ok, Err, refl, sym, ap, subst, ◌∙◌, arith, append-nil, length-append}
 use Rattle.std.proofs.lemmas.Bool.{eqb-true, eqb-false, eq-eqb}
 use Rattle.std.proofs.lemmas.List.{take-append-drop, length-take-le}
 use Rattle.mlt_base.specs.declared.fault.NumFault.{NumFault}
@@ -53,8 +53,8 @@ module _ {A : Type 0} (Good : List ℕ → Type 0) where
       go (Numeral digits rest numeral none is) =
           subst (Told Never Good (λ other. digits_at at other >>= f) at) (sym is)
           (told_behind Never Good Never (λ t. Good (digits ++ t)) (λ other. digits_at at other >>= f) (λ other. f (digits, at + length digits, other)) at digits rest
-              (λ other e. ap (λ (r : Result (List ℕ × ℕ × List ℕ) NumFault). r >>= f) (digits_at-again at digits other numeral (first_no_digit other rest e none)))
-              (λ other h. h) (λ other h. h) (later digits rest numeral none is))
+          (λ other e. ap (λ (r : Result (List ℕ × ℕ × List ℕ) NumFault). r >>= f) (digits_at-again at digits other numeral (first_no_digit other rest e none)))
+          (λ other h. h) (λ other h. h) (later digits rest numeral none is))
 
   -- a mark, and then what another reader tells
   pub mark_told : (f : ℕ × List ℕ → Result A NumFault) (mark at : ℕ) (bytes more : List ℕ) → Good more
@@ -69,7 +69,7 @@ module _ {A : Type 0} (Good : List ℕ → Type 0) where
           let same : b ∷ rest ≡ mark ∷ rest = ap (λ (c : ℕ). c ∷ rest) (eqb-true b mark h) in
           subst (Told Never Good (λ other. mark_at mark at other >>= f) at) (sym same)
           (told_behind Never Good Never (λ t. Good (mark ∷ t)) (λ other. mark_at mark at other >>= f) (λ other. f (at + 1, other)) at (mark ∷ []) rest
-              (λ other e. rw (eq-eqb mark mark refl) refl) (λ other h. h) (λ other h. h) (later rest same))
+          (λ other e. rw (eq-eqb mark mark refl) refl) (λ other h. h) (λ other h. h) (later rest same))
       go false h = wrong_here Never Good (λ other. mark_at mark at other >>= f) at (b ∷ rest) more (λ other e. let (behind, is) = first_is other b e in ap (λ (l : List ℕ). mark_at mark at l >>= f) is ∙ rw h refl) good
 
   -- the end of the text

@@ -4,7 +4,7 @@ use Rattle.std.proofs.Common.{◌≡◌, ℕ, suc, ◌+◌, ◌-◌, ◌^◌, �
 use Rattle.std.specs.Char.{is_ascii_digit}
 use Rattle.std.proofs.Math.Seq.{take-add, take-append-add}
 use Rattle.std.proofs.lemmas.Bool.{cases_lt}
-use Rattle.std.proofs.lemmas.List.{take_at, take-take, length-take-le}
+use Rattle.std.proofs.lemmas.List.{take_at, length-take-le}
 use Rattle.mlt_base.specs.declared.fault.NumFault.{NumFault}
 use Rattle.mlt_base.specs.declared.fault.NumFault.TheVariants.{Empty, BadDigit, TooLarge}
 use Rattle.mlt_base.specs.Reading.{held, digit_count, below}
@@ -114,15 +114,15 @@ module _ {A : Type 0} where
   told_behind Nothing Good Nothing' Good' read next at front rest reads missing good (Right h) = Right (good rest h)
   told_behind Nothing Good Nothing' Good' read next at front rest reads missing good (Wrong k stuck (more, h)) =
       Wrong (length front + k)
-          (record {
-            within = omega (arith, stuck.within, length-append front rest);
-            again = λ other e.
-                let on : length front + k + 1 ≡ length front + (k + 1) = omega arith in
-                let moved : take (length front + (k + 1)) other ≡ take (length front + (k + 1)) (front ++ rest) = ap (λ (n : ℕ). take n other) (sym on) ∙ (e ∙ ap (λ (n : ℕ). take n (front ++ rest)) on) in
-                let (behind, is, same) = same_front front rest other (k + 1) moved in
-                ap read is ∙ (reads behind (same_first k behind rest same) ∙ (stuck.again behind same ∙ ap (λ (n : ℕ). Err (BadDigit (held n))) (omega arith)));
-          })
-          (more, subst Good (sym (append_assoc front (take k rest) more) ∙ ap (λ (l : List ℕ). l ++ more) (sym (take-append-add front rest k))) (good (take k rest ++ more) h))
+      (record {
+        within = omega (arith, stuck.within, length-append front rest);
+        again = λ other e.
+            let on : length front + k + 1 ≡ length front + (k + 1) = omega arith in
+            let moved : take (length front + (k + 1)) other ≡ take (length front + (k + 1)) (front ++ rest) = ap (λ (n : ℕ). take n other) (sym on) ∙ (e ∙ ap (λ (n : ℕ). take n (front ++ rest)) on) in
+            let (behind, is, same) = same_front front rest other (k + 1) moved in
+            ap read is ∙ (reads behind (same_first k behind rest same) ∙ (stuck.again behind same ∙ ap (λ (n : ℕ). Err (BadDigit (held n))) (omega arith)));
+      })
+      (more, subst Good (sym (append_assoc front (take k rest) more) ∙ ap (λ (l : List ℕ). l ++ more) (sym (take-append-add front rest k))) (good (take k rest ++ more) h))
 
   -- the same where a grammar is said otherwise
   pub told_as : (Nothing Good Nothing' Good' : List ℕ → Type 0) (read : List ℕ → Result A NumFault) (at : ℕ) (text : List ℕ)

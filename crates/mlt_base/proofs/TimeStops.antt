@@ -1,16 +1,15 @@
 -- Times: the place where a text can't go on.
-use Rattle.std.proofs.Common.{◌≡◌, ℕ, zero, suc, ◌+◌, ◌^◌, ◌<◌, ◌≤◌, ◌⊎◌, inl, inr, Bool, true, false, cond, eqb, ltb, min, List, [], ◌∷◌, ◌++◌, length, take, drop, Result, Ok, Err, refl, sym, ap, subst, ◌∙◌, arith, add-one, append-nil, length-append}
+use Rattle.std.proofs.Common.{◌≡◌, ℕ, zero, suc, ◌+◌, ◌^◌, ◌<◌, ◌≤◌, ◌⊎◌, inl, inr, Bool, true, false, cond, eqb, min, List, [], ◌∷◌, ◌++◌, length, take, Ok, Err, refl, sym, ap, subst, ◌∙◌, arith, append-nil}
 use Rattle.std.specs.Char.{is_ascii_digit}
 use Rattle.std.proofs.lemmas.Bool.{cases_lt, eqb-true, ne_eqb, lt-ltb, le-ltb}
 use Rattle.std.proofs.lemmas.List.{length-take-le}
-use Rattle.mlt_base.specs.declared.fault.NumFault.{NumFault}
 use Rattle.mlt_base.specs.declared.fault.NumFault.TheVariants.{Empty, BadDigit, TooLarge}
-use Rattle.mlt_base.specs.Reading.{held, AreDigits, IsNumeral, digit_count, digits_at, mark_at, end_at, below}
+use Rattle.mlt_base.specs.Reading.{held, IsNumeral, digit_count, digits_at, end_at, below}
 use Rattle.mlt_base.specs.Steps.{◌>>=◌}
 use Rattle.mlt_base.specs.Stop.{Texts}
 use Rattle.mlt_base.specs.Time.{Form, Frames, Clock, Counted, frames_of, last_digits, fraction_digits, behind_seconds, behind_hours, behind_first, form_of, time}
 use Rattle.mlt_base.specs.Grammar.{clock_text, IsClock, IsTime}
-use Rattle.mlt_base.proofs.Forms.{AreDigits-all, digit_count-all, digit_count-append, digit_count-le, digits_at-again}
+use Rattle.mlt_base.proofs.Forms.{AreDigits-all, digit_count-append, digit_count-le, digits_at-again}
 use Rattle.mlt_base.proofs.TimeForms.{regroup, behind_minutes, whole_time}
 use Rattle.mlt_base.proofs.Stops.{Told, Missing, Wrong, Right, Never, IsNone, Sized, below_sized, below_unfit, first_is, first_no_digit, wrong_here, told_behind, told_as, told_then}
 use Rattle.mlt_base.proofs.NumeralStops.{NumeralCase, NoDigit, Numeral, numeral_case, digits_none, zero_numeral, digits_told, mark_told, end_told, numeral_told}
@@ -64,8 +63,8 @@ fraction_told at bytes = go (numeral_case bytes) (cases_lt 3 (digit_count bytes)
         let short : length digits ≤ 3 = omega (arith, few, ap digit_count is, digit_count-append digits rest numeral.1) in
         subst (Told Never IsFraction (fraction_digits at) at) (sym is)
         (told_behind Never IsFraction Never (λ t. IsFraction (digits ++ t)) (fraction_digits at) (λ other. end_at (at + length digits) other >>= λ end. Ok digits) at digits rest
-            (λ other e. rw (digits_at-again at digits other numeral (first_no_digit other rest e none), le-ltb 3 (length digits) short) refl) (λ other h. h) (λ other h. h)
-            (end_told (λ t. IsFraction (digits ++ t)) digits (at + length digits) rest (subst IsFraction (sym (append-nil digits)) (numeral, short))))
+        (λ other e. rw (digits_at-again at digits other numeral (first_no_digit other rest e none), le-ltb 3 (length digits) short) refl) (λ other h. h) (λ other h. h)
+        (end_told (λ t. IsFraction (digits ++ t)) digits (at + length digits) rest (subst IsFraction (sym (append-nil digits)) (numeral, short))))
 
 -- ---- a clock
 
@@ -81,13 +80,13 @@ seconds_told h m s at (b ∷ rest) clock = go (eqb b 58) (eqb b 46) refl refl
     go true point hc hp =
         subst (Told Never Good (behind_seconds h m s at) at) (ap (λ (c : ℕ). c ∷ rest) (sym (eqb-true b 58 hc)))
         (told_behind Never Good Never IsNumeral (behind_seconds h m s at) (λ other. last_digits (at + 1) other >>= λ frames. Ok (Counted h m s frames)) at (58 ∷ []) rest
-            (λ other e. refl) (λ other h. h) (λ other numeral. (Counted h m s other, (clock, numeral, refl)))
-            (told_then Never IsNumeral (last_digits (at + 1)) (λ frames. Ok (Counted h m s frames)) (at + 1) rest (last_told (at + 1) rest)))
+        (λ other e. refl) (λ other h. h) (λ other numeral. (Counted h m s other, (clock, numeral, refl)))
+        (told_then Never IsNumeral (last_digits (at + 1)) (λ frames. Ok (Counted h m s frames)) (at + 1) rest (last_told (at + 1) rest)))
     go false true hc hp =
         subst (Told Never Good (behind_seconds h m s at) at) (ap (λ (c : ℕ). c ∷ rest) (sym (eqb-true b 46 hp)))
         (told_behind Never Good Never IsFraction (behind_seconds h m s at) (λ other. fraction_digits (at + 1) other >>= λ fraction. Ok (Clock h m s fraction)) at (46 ∷ []) rest
-            (λ other e. refl) (λ other h. h) (λ other fraction. (Clock h m s other, (clock, inr (fraction.0, fraction.1, refl))))
-            (told_then Never IsFraction (fraction_digits (at + 1)) (λ fraction. Ok (Clock h m s fraction)) (at + 1) rest (fraction_told (at + 1) rest)))
+        (λ other e. refl) (λ other h. h) (λ other fraction. (Clock h m s other, (clock, inr (fraction.0, fraction.1, refl))))
+        (told_then Never IsFraction (fraction_digits (at + 1)) (λ fraction. Ok (Clock h m s fraction)) (at + 1) rest (fraction_told (at + 1) rest)))
     go false false hc hp =
         wrong_here Never Good (behind_seconds h m s at) at (b ∷ rest) []
         (λ other e. let (behind, is) = first_is other b e in ap (behind_seconds h m s at) is ∙ rw (hc, hp) refl)
@@ -101,10 +100,10 @@ minutes_told : (h m : List ℕ) (at : ℕ) (bytes : List ℕ) → IsNumeral h �
 minutes_told h m at bytes hours minutes =
     mark_told (λ t. Texts IsTime (h ++ 58 ∷ (m ++ t))) (λ second. digits_at second.0 second.1 >>= λ seconds. behind_seconds h m seconds.0 seconds.1 seconds.2) 58 at bytes (58 ∷ 48 ∷ []) (minutes_there h m hours minutes)
     (λ rest is. digits_told (λ t. Texts IsTime (h ++ 58 ∷ (m ++ 58 ∷ t))) (λ seconds. behind_seconds h m seconds.0 seconds.1 seconds.2) (at + 1) rest (48 ∷ []) (minutes_there h m hours minutes)
-        (λ s behind numeral none is.
-            told_as Never (λ t. Texts IsTime (h ++ 58 ∷ (m ++ 58 ∷ (s ++ t)))) Never (λ t. Texts IsTime (clock_text h m s ++ t)) (behind_seconds h m s (at + 1 + length s)) (at + 1 + length s) behind
-            (λ other h. h) (λ other good. subst (Texts IsTime) (regroup h m s other) good)
-            (seconds_told h m s (at + 1 + length s) behind (hours, minutes, numeral))))
+    (λ s behind numeral none is.
+    told_as Never (λ t. Texts IsTime (h ++ 58 ∷ (m ++ 58 ∷ (s ++ t)))) Never (λ t. Texts IsTime (clock_text h m s ++ t)) (behind_seconds h m s (at + 1 + length s)) (at + 1 + length s) behind
+    (λ other h. h) (λ other good. subst (Texts IsTime) (regroup h m s other) good)
+    (seconds_told h m s (at + 1 + length s) behind (hours, minutes, numeral))))
 
 -- the shortest clock with these hours
 hours_there : (h : List ℕ) → IsNumeral h → Texts IsTime (h ++ 58 ∷ 48 ∷ 58 ∷ 48 ∷ [])
@@ -118,7 +117,7 @@ unfolding behind_hours
 hours_told h at bytes hours =
     mark_told (λ t. Texts IsTime (h ++ t)) (λ first. digits_at first.0 first.1 >>= λ minutes. behind_minutes h minutes.0 minutes.1 minutes.2) 58 at bytes [] (frames_there h hours)
     (λ rest is. digits_told (λ t. Texts IsTime (h ++ 58 ∷ t)) (λ minutes. behind_minutes h minutes.0 minutes.1 minutes.2) (at + 1) rest (48 ∷ 58 ∷ 48 ∷ []) (hours_there h hours)
-        (λ m behind numeral none is. minutes_told h m (at + 1 + length m) behind hours numeral))
+    (λ m behind numeral none is. minutes_told h m (at + 1 + length m) behind hours numeral))
 
 first_told : (digits : List ℕ) (at : ℕ) (bytes : List ℕ) → IsNumeral digits → Told Never (λ t. Texts IsTime (digits ++ t)) (behind_first digits at) at bytes
 unfolding behind_first
@@ -135,7 +134,7 @@ form_told (b ∷ bytes) =
     told_behind IsNone (Texts IsTime) Never (Texts IsTime) form_of (λ other. digits_at 0 other >>= λ first. behind_first first.0 first.1 first.2) 0 [] (b ∷ bytes)
     (λ other e. let (more, is) = first_is other b e in ap form_of is ∙ ap (λ (l : List ℕ). digits_at 0 l >>= λ first. behind_first first.0 first.1 first.2) (sym is)) (λ other h. absurd h) (λ other h. h)
     (digits_told (Texts IsTime) (λ first. behind_first first.0 first.1 first.2) 0 (b ∷ bytes) (48 ∷ []) (Frames (48 ∷ []), (zero_numeral, refl))
-        (λ digits rest numeral none is. first_told digits (0 + length digits) rest numeral))
+    (λ digits rest numeral none is. first_told digits (0 + length digits) rest numeral))
 
 -- ---- the whole
 

@@ -1,16 +1,15 @@
 -- Whole numbers: the texts that are too short, and the place where the others can't go on.
-use Rattle.std.proofs.Common.{◌≡◌, ℕ, ◌+◌, ◌^◌, ◌<◌, ◌≤◌, ◌⊎◌, inl, inr, Bool, true, false, cond, eqb, ltb, leb, List, [], ◌∷◌, ◌++◌, length, Result, Ok, Err, refl, sym, ap, subst, ◌∙◌, arith}
+use Rattle.std.proofs.Common.{◌≡◌, ℕ, ◌^◌, ◌⊎◌, inl, inr, Bool, true, false, cond, eqb, ltb, leb, List, [], ◌∷◌, Ok, Err, refl, sym, ap, subst, ◌∙◌, arith}
 use Rattle.std.specs.Prelude.{ℤ, pos, neg_ℤ, FitsSigned}
 use Rattle.std.specs.Int.{w64}
 use Rattle.std.proofs.lemmas.Bool.{eqb-true}
-use Rattle.mlt_base.specs.declared.fault.NumFault.{NumFault}
 use Rattle.mlt_base.specs.declared.fault.NumFault.TheVariants.{Empty, TooLarge}
 use Rattle.mlt_base.specs.Reading.{IsNumeral, number, digits_at, end_at}
 use Rattle.mlt_base.specs.Steps.{◌>>=◌}
 use Rattle.mlt_base.specs.Stop.{Texts}
 use Rattle.mlt_base.specs.Whole.{digits_to_end, positive, negative, whole}
-use Rattle.mlt_base.specs.Grammar.{IsWhole, whole_text, whole_value}
-use Rattle.mlt_base.proofs.Stops.{Told, Missing, Never, IsNone, Sized, first_is, told_behind, told_as, told_then}
+use Rattle.mlt_base.specs.Grammar.{IsWhole, whole_value}
+use Rattle.mlt_base.proofs.Stops.{Told, Missing, Never, IsNone, Sized, first_is, told_behind, told_then}
 use Rattle.mlt_base.proofs.NumeralStops.{numeral_told}
 use Rattle.mlt_base.proofs.WholeForms.{whole_again, whole_accepted}
 
@@ -36,8 +35,8 @@ whole_told (b ∷ bytes) = go (eqb b 45) refl
     go true h =
         subst (Told LacksDigits (Texts IsWhole) whole 0) (ap (λ (c : ℕ). c ∷ bytes) (sym (eqb-true b 45 h)))
         (told_behind LacksDigits (Texts IsWhole) IsNone IsNumeral whole (λ other. digits_to_end 1 other >>= λ digits. negative (number digits)) 0 (45 ∷ []) bytes
-            (λ other e. refl) (λ other e. inr (ap (λ (l : List ℕ). 45 ∷ l) e)) (λ other numeral. (whole_value true other, (true, other, numeral, refl, refl)))
-            (told_then IsNone IsNumeral (digits_to_end 1) (λ digits. negative (number digits)) 1 bytes (to_end_told 1 bytes)))
+        (λ other e. refl) (λ other e. inr (ap (λ (l : List ℕ). 45 ∷ l) e)) (λ other numeral. (whole_value true other, (true, other, numeral, refl, refl)))
+        (told_then IsNone IsNumeral (digits_to_end 1) (λ digits. negative (number digits)) 1 bytes (to_end_told 1 bytes)))
     go false h =
         told_behind LacksDigits (Texts IsWhole) IsNone IsNumeral whole (λ other. digits_to_end 0 other >>= λ digits. positive (number digits)) 0 [] (b ∷ bytes)
         (λ other e. let (more, is) = first_is other b e in ap whole is ∙ (rw h refl ∙ ap (λ (l : List ℕ). digits_to_end 0 l >>= λ digits. positive (number digits)) (sym is)))

@@ -1,7 +1,6 @@
 -- Which texts are numbers, times, profiles, geometries and animations, and what they mean, said apart from any reader.
 use Rattle.std.specs.Prelude.{◌≡◌, ℕ, ◌+◌, ◌*◌, ◌/◌, ◌^◌, ◌<◌, ◌≤◌, ◌⊎◌, Bool, true, false, min, max, ℤ, pos, neg_ℤ, unsigned_abs, List, [], ◌∷◌, ◌++◌, length}
 use Rattle.std.specs.List.{Any}
-use Rattle.mlt_base.specs.declared.table.NamedProfile.{NamedProfile}
 use Rattle.mlt_base.specs.declared.table.TheConstants.{PROFILES}
 use Rattle.mlt_base.specs.Name.{name_of}
 use Rattle.mlt_base.specs.Profile.{Measures, row_measures}

@@ -7,7 +7,7 @@ ghost use Rattle.mlt_base.specs.ProfileView.{measures_of};
 
 use crate::limits::{MOST_OF_RATE, MOST_PIXELS, MOST_RATE};
 use crate::profile::{Profile, Rate};
-use crate::reading::{split_once, digit_count, number};
+use crate::reading::{digit_count, number, split_once};
 use crate::table::{NamedProfile, PROFILES, row_named};
 
 /// The profile of these numbers, where they are within the limits.

@@ -11,8 +11,7 @@ returns-clause-empty c text = law_empty LacksDigits (Texts IsWhole) whole whole_
 
 pub returns-clause-bad_digit : goal.returns-clause-bad_digit
 returns-clause-bad_digit c text at short =
-    let law = law_bad LacksDigits (Texts IsWhole) whole whole_told whole_missing whole_sized text at short in
-    (
+    let law = law_bad LacksDigits (Texts IsWhole) whole whole_told whole_missing whole_sized text at short in (
       (λ e. let (some, stop) = law.0 e in ((λ none. some (inl none)), (λ sign. some (inr sign)), stop)),
       (λ (some, more, stop). law.1 ((λ missing. elim missing [ inl none ↦ some none | inr sign ↦ more sign ]), stop)),
     )
