@@ -1,5 +1,5 @@
 -- The pieces of a line, as they are written.
-use Rattle.std.specs.Prelude.{ℕ, ◌≤◌, length}
+use Rattle.std.specs.Prelude.{◌≤◌, length}
 use Rattle.mlt_tree.specs.Lines as line
 use Rattle.melt_run.specs.declared.line.Piece.{Piece}
 use Rattle.melt_run.specs.declared.line.Piece.TheVariants.{Words, Count, Number}

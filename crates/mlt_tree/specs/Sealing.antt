@@ -1,5 +1,5 @@
 -- The frame of a composition, and its end: its tree, whether there is something to play, and not too much of it.
-use Rattle.std.specs.Prelude.{ℕ, ◌+◌, ◌-◌, ◌*◌, ◌^◌, nat_le, nat_eq, max, if◌then◌else◌, List, [], ◌∷◌, ◌++◌, length, None, unwrap_or, Result, Ok, codes}
+use Rattle.std.specs.Prelude.{ℕ, ◌+◌, ◌-◌, ◌*◌, nat_le, nat_eq, max, if◌then◌else◌, List, [], ◌∷◌, ◌++◌, length, None, unwrap_or, Result, Ok, codes}
 use Rattle.mlt_base.specs.Profile.{Measures}
 use Rattle.mlt_base.specs.Samples.{most_samples}
 use Rattle.mlt_base.specs.declared.limits.TheConstants as limit
