@@ -121,16 +121,16 @@ ppm_takes text p e = go (ppm_case text)
 
 pub ppm_accepted : (text : List ℕ) (p : Picture) → IsPpm text p → ppm text ≡ Ok p
 ppm_accepted text p (fields, field, e) =
-    let R1 = λ (w : ℕ). IsField (λ h. IsField (λ m. IsRaster (IsRasterOf p w h m))) in
-    let p1 = parts_of R1 (λ w rest. field_no_digit (λ h. IsField (λ m. IsRaster (IsRasterOf p w h m))) rest) fields field in
+    let BehindWidth = λ (w : ℕ). IsField (λ h. IsField (λ m. IsRaster (IsRasterOf p w h m))) in
+    let p1 = parts_of BehindWidth (λ w rest. field_no_digit (λ h. IsField (λ m. IsRaster (IsRasterOf p w h m))) rest) fields field in
     let w : ℕ = number (digits_in fields) in
     let r1 : List ℕ = rest_in fields in
-    let R2 = λ (h : ℕ). IsField (λ m. IsRaster (IsRasterOf p w h m)) in
-    let p2 = parts_of R2 (λ h rest. field_no_digit (λ m. IsRaster (IsRasterOf p w h m)) rest) r1 p1.rest in
+    let BehindHeight = λ (h : ℕ). IsField (λ m. IsRaster (IsRasterOf p w h m)) in
+    let p2 = parts_of BehindHeight (λ h rest. field_no_digit (λ m. IsRaster (IsRasterOf p w h m)) rest) r1 p1.rest in
     let h : ℕ = number (digits_in r1) in
     let r2 : List ℕ = rest_in r1 in
-    let R3 = λ (m : ℕ). IsRaster (IsRasterOf p w h m) in
-    let p3 = parts_of R3 (λ m rest. raster_no_digit (IsRasterOf p w h m) rest) r2 p2.rest in
+    let BehindMaxval = λ (m : ℕ). IsRaster (IsRasterOf p w h m) in
+    let p3 = parts_of BehindMaxval (λ m rest. raster_no_digit (IsRasterOf p w h m) rest) r2 p2.rest in
     let m : ℕ = number (digits_in r2) in
     let (white, raster, is_one, (w1, w2, h1, h2, depth, room, same), is) = p3.rest in
     let g1 : Goes IsSide 65536 2 fields = goes IsSide 65536 2 fields p1.blank p1.digit (omega arith) (omega arith) w1 in
