@@ -5,7 +5,7 @@ use Rattle.melt_build.specs.declared.wanted.Origin.TheVariants.{Colour}
 use Rattle.melt_build.specs.declared.wanted.Product.{Product}
 use Rattle.melt_build.specs.declared.wanted.Wanted.{Wanted}
 use Rattle.melt_build.specs.declared.state.Made.{Made}
-use Rattle.melt_build.specs.Sources.{pixel}
+use Rattle.mlt_image.specs.View.{pixel}
 use Rattle.melt_build.specs.State.{made_view}
 
 abbrev pub origin_view : Origin → meaning.Origin

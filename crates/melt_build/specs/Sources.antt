@@ -1,10 +1,7 @@
--- What a colour of this crate means.
-use Rattle.mlt_base.specs.Colour.{Pixel}
+-- What a colour means as a source.
+use Rattle.mlt_image.specs.View.{pixel}
+use Rattle.mlt_image.specs.declared.colour.Colour.{Colour}
 use Rattle.mlt_tree.specs.Show.{Source, Plain}
-use Rattle.melt_build.specs.declared.sources.Colour.{Colour}
-
-abbrev pub pixel : Colour → Pixel
-pixel c = record { r = c.r; g = c.g; b = c.b; a = c.a }
 
 abbrev pub source_of : Colour → Source
 source_of c = Plain (pixel c)

@@ -14,19 +14,19 @@ ghost use Rattle.melt_build.specs.Clips.{origin_view, wanted_view, product_view}
 ghost use Rattle.melt_build.specs.Given.{props_in};
 ghost use Rattle.melt_build.specs.Reads.{ReadGives};
 ghost use Rattle.melt_build.specs.Service.{named_view};
-ghost use Rattle.melt_build.specs.Sources.{pixel, source_of};
+ghost use Rattle.mlt_image.specs.View.{pixel};
+ghost use Rattle.melt_build.specs.Sources.{source_of};
 ghost use Rattle.melt_build.specs.State.{IsComposed, IsMade, made_view, state_view, cut_view};
 
-use crate::colours::colour_of;
 use crate::object::Object;
 use crate::props::Given;
 use crate::refused::edited;
 use crate::service::{Named, colour_name, producer_of};
-use crate::sources::Colour;
 use crate::state::{Made, State};
 use crate::wanted::{Cut, Origin, Product, Wanted};
 use mlt_base::limits::OWN_LENGTH;
 use mlt_base::{Pos, Profile, Span, Try};
+use mlt_image::Colour;
 use mlt_tree::{Cause, Entry, FilterList, Group, Producer, Refusal, SourceKind, services as row};
 use std::alloc::{AllocError, Global};
 
@@ -56,7 +56,7 @@ fn origin_of(place: u32, named: Named<'_>) -> Result<Origin, Refusal>
     ensures { Gives origin_view result (meaning.origin_of place (named_view named.entry)) }
 {
     match named.producer {
-        Producer::Colour => match colour_of(colour_name(named.arg)) {
+        Producer::Colour => match Colour::read(colour_name(named.arg)) {
             Some(colour) => Ok(Origin::Colour(colour)),
             None => Err(Refusal::at(place, Cause::BadValue)),
         },

@@ -12,7 +12,6 @@
 
 mod built;
 mod clips;
-mod colours;
 mod composition;
 mod consumer;
 mod object;
@@ -27,7 +26,7 @@ mod track;
 mod wanted;
 
 pub use show::{BuildFault, build};
-pub use sources::{Colour, SourceTable};
+pub use sources::SourceTable;
 
 #[cfg(test)]
 mod tests;

@@ -5,17 +5,9 @@ ghost use Rattle.std.specs.Option.{option_map};
 ghost use Rattle.melt_build.specs.Sources.{source_of};
 
 use mlt_base::SourceNo;
+use mlt_image::Colour;
 use std::alloc::{AllocError, Global};
 use std::marker::Model;
-
-/// A colour with straight alpha.
-#[derive(Clone, Copy, Debug, PartialEq, Eq)]
-pub struct Colour {
-    pub r: u8,
-    pub g: u8,
-    pub b: u8,
-    pub a: u8,
-}
 
 /// The sources of a run by their numbers, in order from 0.
 #[derive(Drop)]

@@ -8,6 +8,7 @@ use melt_words::groups;
 use mlt_base::SourceNo;
 use mlt_graph::{Format, Pix};
 use mlt_host::CalmHost;
+use mlt_image::Colour;
 use mlt_tree::{Cause, GroupList};
 use std::alloc::Global;
 use std::test::Fail;

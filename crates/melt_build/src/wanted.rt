@@ -3,8 +3,8 @@
 ghost use Rattle.std.specs.Prelude.{ℕ, ◌≤◌, ◌<◌, ◌^◌, IfSome};
 ghost use Rattle.std.proofs.Props.{props};
 
-use crate::sources::Colour;
 use mlt_base::UnitId;
+use mlt_image::Colour;
 
 /// The first and the last frame of a cut.
 #[derive(Clone, Copy)]

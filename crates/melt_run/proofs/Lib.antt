@@ -10,5 +10,4 @@ mod Outcomes
 mod Painted
 mod Played
 mod Tallies
-mod Tiled
 mod Walked

@@ -2,21 +2,22 @@
 
 ghost use Rattle.std.specs.Prelude.{◌≡◌, ◌≤◌, ◌*◌, length, take};
 ghost use Rattle.std.specs.Option.{option_map, option_to_list};
-ghost use Rattle.mlt_base.specs.Picture.{on_black, plain};
+ghost use Rattle.mlt_base.specs.Picture.{plain};
 ghost use Rattle.mlt_tree.specs.Show.{video_of, packed};
 ghost use Rattle.mlt_tree.specs.Needs.{needs};
 ghost use Rattle.mlt_tree.specs.Unbuilt.{IsPlain};
 ghost use Rattle.mlt_graph.specs.Piece.{piece_of, pixel_bytes};
 ghost use Rattle.mlt_graph.specs.Sealed.{tree};
 ghost use Rattle.mlt_graph.specs.Show.{meant, pix_of};
-ghost use Rattle.melt_build.specs.Sources.{pixel};
+ghost use Rattle.mlt_image.specs.View.{pixel};
 ghost use Rattle.melt_run.specs.Pixels.{picture_bytes, seen_pixel};
 
-use crate::tile::tile;
 use crate::walk::source_at;
-use melt_build::{Colour, SourceTable};
+use melt_build::SourceTable;
 use mlt_base::{Profile, SourceNo};
 use mlt_graph::{Pix, Show};
+use mlt_image::tile::tile;
+use mlt_image::{Colour, over_black};
 
 /// The number of pixels of a frame.
 fn pixels(profile: &Profile) -> usize
@@ -38,13 +39,6 @@ pub(crate) fn picture_bytes(show: &Show) -> usize
     }
 }
 
-/// A channel laid over black.
-fn over_black(channel: u8, alpha: u8) -> u8
-    ensures { result ≡ on_black channel alpha }
-{
-    ((u32::from(channel) * u32::from(alpha) + 127) / 255) as u8
-}
-
 /// Gives every pixel this colour, as it is written.
 fn paint(pix: Pix, bytes: &mut [u8], count: usize, colour: Colour)
     requires { length bytes.old ≡ count * pixel_bytes pix }
@@ -52,10 +46,7 @@ fn paint(pix: Pix, bytes: &mut [u8], count: usize, colour: Colour)
 {
     let Colour { r, g, b, a } = colour;
     match pix {
-        Pix::Rgb => tile(
-            bytes,
-            &[over_black(r, a), over_black(g, a), over_black(b, a)],
-        ),
+        Pix::Rgb => tile(bytes, &over_black([r, g, b, a])),
         Pix::Rgba => tile(bytes, &[r, g, b, a]),
     }
 }

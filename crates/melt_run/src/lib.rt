@@ -13,7 +13,6 @@ pub mod prepared;
 pub mod run;
 pub mod status;
 pub mod text;
-mod tile;
 mod walk;
 
 pub use gate::{Free, Gate};

@@ -1,44 +1,18 @@
 //! Which source is seen at a position: down from a unit to the source, and never back.
 
-ghost use Rattle.std.specs.Prelude.{◌≡◌, ◌≤◌, ◌<◌, ◌+◌, length, All};
+ghost use Rattle.std.specs.Prelude.{◌≡◌, ◌≤◌, ◌<◌, ◌+◌, length, map, All};
 ghost use Rattle.std.specs.Option.{option_map};
 ghost use Rattle.mlt_tree.specs.Ranges.{IsEntry, frames};
 ghost use Rattle.mlt_tree.specs.Tree.{Src};
-ghost use Rattle.mlt_tree.specs.Units.{IsGraph, IsBodyBelow, IsTrackBelow, AreEntriesBelow, IsEntryBelow, tree_of, body_tree, parts_of, entry_tree};
+ghost use Rattle.mlt_tree.specs.Units.{IsBodyBelow, IsTrackBelow, AreEntriesBelow, IsEntryBelow, tree_of, body_tree, parts_of, entry_tree};
+ghost use Rattle.mlt_graph.specs.Lists.{lists_in, lists_of};
 ghost use Rattle.mlt_graph.specs.Sealed.{tree};
-ghost use Rattle.melt_run.specs.Found.{entry_with, row_at, shown_of};
+ghost use Rattle.melt_run.specs.Found.{IsListOf, row_at, shown_of};
 ghost use Rattle.melt_run.specs.Seen.{seen, seen_in};
 
 use mlt_base::{SourceNo, Span};
 use mlt_graph::Sealed;
-use mlt_tree::{Body, Entry, Node, SourceKind, Track};
-
-/// The place of the last frame of an entry.
-fn last_of(entry: &Entry) -> u32
-    requires { IsEntry entry.now }
-    ensures { result + 1 ≡ frames entry.now }
-{
-    match entry {
-        Entry::Clip { span, .. } => span.last.0 - span.first.0,
-        Entry::Gap { frames } => *frames - 1,
-    }
-}
-
-/// The entry that has a position of the list, and the place of the position in it.
-fn entry_with(entries: &[Entry], at: u32) -> Option<(&Entry, u32)>
-    requires { All IsEntry entries.now }
-    ensures { option_map (λ found. (found.0.now, found.1)) result ≡ entry_with entries.now at }
-{
-    let mut left = at;
-    for entry in entries {
-        let last = last_of(entry);
-        if left <= last {
-            return Some((entry, left));
-        }
-        left = left - last - 1;
-    }
-    None
-}
+use mlt_tree::{Body, Entry, SourceKind, Track};
 
 /// The source that is seen at a position of it.
 fn of_source(no: SourceNo, kind: SourceKind, frames: u32, at: u32) -> Option<SourceNo>
@@ -58,98 +32,102 @@ fn frame_at(span: Span, place: u32) -> u32
     span.first.0 + place
 }
 
-/// The source that is seen at a place of an entry of a unit with this number.
+/// The source that is seen at a place of an entry, which is of a unit below this number.
 #[cycle(walk)]
-fn of_entry(units: &[Node], below: usize, entry: &Entry, place: u32) -> Option<SourceNo>
-    requires graph { IsGraph units.now }
-    requires known { below ≤ length units.now }
+fn of_entry(sealed: &Sealed, below: usize, entry: &Entry, place: u32) -> Option<SourceNo>
+    requires known { below ≤ length sealed.now.units }
     requires entry_below { IsEntryBelow below entry.now }
     requires range { IsEntry entry.now }
     requires inside { place < frames entry.now }
-    ensures { option_map (λ s. s.0) result ≡ seen (entry_tree (tree_of units.now) entry.now) place }
+    ensures { option_map (λ s. s.0) result ≡ seen (entry_tree (tree_of sealed.now.units) entry.now) place }
 {
     match entry {
-        Entry::Clip { unit, span, .. } => of_unit(units, unit.0 as usize, frame_at(*span, place)),
+        Entry::Clip { unit, span, .. } => of_unit(sealed, unit.0 as usize, frame_at(*span, place)),
         Entry::Gap { .. } => None,
     }
 }
 
-/// The source that is seen at a position of entries, one after another, of a unit with this number.
+/// The source that is seen at a position of the entries of a list of a unit.
 #[cycle(walk)]
-fn of_entries(units: &[Node], below: usize, entries: &[Entry], at: u32) -> Option<SourceNo>
-    requires graph { IsGraph units.now }
-    requires known { below ≤ length units.now }
-    requires entries_below { AreEntriesBelow below entries.now }
-    ensures { option_map (λ s. s.0) result ≡ seen_in (parts_of (tree_of units.now) entries.now) at }
+fn of_entries(
+    sealed: &Sealed,
+    unit: usize,
+    list: usize,
+    entries: &[Entry],
+    at: u32,
+) -> Option<SourceNo>
+    requires known { unit < length sealed.now.units }
+    requires entries_below { AreEntriesBelow unit entries.now }
+    requires list { IsListOf sealed.now.units unit list entries.now }
+    ensures { option_map (λ s. s.0) result ≡ seen_in (parts_of (tree_of sealed.now.units) entries.now) at }
 {
-    match entry_with(entries, at) {
-        Some((entry, place)) => of_entry(units, below, entry, place),
+    match sealed.find(unit, list, at) {
+        Some((index, place)) => of_entry(sealed, unit, &entries[index], place),
         None => None,
     }
 }
 
-/// The source that is seen at a position of a track of a unit with this number.
+/// The source that is seen at a position of a track of a unit.
 #[cycle(walk)]
-fn of_track(units: &[Node], below: usize, track: &Track, at: u32) -> Option<SourceNo>
-    requires graph { IsGraph units.now }
-    requires known { below ≤ length units.now }
-    requires track_below { IsTrackBelow below track.now }
-    ensures { option_map (λ s. s.0) result ≡ row_at (tree_of units.now) at track.now }
+fn of_track(sealed: &Sealed, unit: usize, row: usize, track: &Track, at: u32) -> Option<SourceNo>
+    requires known { unit < length sealed.now.units }
+    requires track_below { IsTrackBelow unit track.now }
+    requires list { IsListOf sealed.now.units unit row track.now.entries }
+    ensures { option_map (λ s. s.0) result ≡ row_at (tree_of sealed.now.units) at track.now }
 {
     if track.hide.video {
         None
     } else {
-        of_entries(units, below, track.entries.as_slice(), at)
+        of_entries(sealed, unit, row, track.entries.as_slice(), at)
     }
 }
 
-/// The source of the highest track that has one at a position.
+/// The source of the highest track of a unit that has one at a position.
 #[cycle(walk)]
-fn of_tracks(units: &[Node], below: usize, tracks: &[Track], at: u32) -> Option<SourceNo>
-    requires graph { IsGraph units.now }
-    requires known { below ≤ length units.now }
-    requires tracks_below { All (IsTrackBelow below) tracks.now }
-    ensures { option_map (λ s. s.0) result ≡ shown_of (tree_of units.now) at tracks.now }
+fn of_tracks(sealed: &Sealed, unit: usize, tracks: &[Track], at: u32) -> Option<SourceNo>
+    requires known { unit < length sealed.now.units }
+    requires tracks_below { All (IsTrackBelow unit) tracks.now }
+    requires lists { lists_of sealed.now.units unit ≡ map (λ track. track.entries) tracks.now }
+    ensures { option_map (λ s. s.0) result ≡ shown_of (tree_of sealed.now.units) at tracks.now }
 {
     let mut row = tracks.len();
     while row > 0 {
         row -= 1;
-        if let Some(no) = of_track(units, below, &tracks[row], at) {
+        if let Some(no) = of_track(sealed, unit, row, &tracks[row], at) {
             return Some(no);
         }
     }
     None
 }
 
-/// The source that is seen at a position of what a unit with this number is made of.
+/// The source that is seen at a position of what a unit is made of.
 #[cycle(walk)]
-fn of_body(units: &[Node], below: usize, body: &Body, at: u32) -> Option<SourceNo>
-    requires graph { IsGraph units.now }
-    requires known { below ≤ length units.now }
-    requires body_below { IsBodyBelow below body.now }
-    ensures { option_map (λ s. s.0) result ≡ seen (body_tree (tree_of units.now) body.now) at }
+fn of_body(sealed: &Sealed, unit: usize, body: &Body, at: u32) -> Option<SourceNo>
+    requires known { unit < length sealed.now.units }
+    requires body_below { IsBodyBelow unit body.now }
+    requires lists { lists_of sealed.now.units unit ≡ lists_in body.now }
+    ensures { option_map (λ s. s.0) result ≡ seen (body_tree (tree_of sealed.now.units) body.now) at }
 {
     match body {
         Body::Source { no, kind, frames } => of_source(*no, *kind, *frames, at),
-        Body::Entries { entries } => of_entries(units, below, entries.as_slice(), at),
-        Body::Tractor { tracks, .. } => of_tracks(units, below, tracks.as_slice(), at),
+        Body::Entries { entries } => of_entries(sealed, unit, 0, entries.as_slice(), at),
+        Body::Tractor { tracks, .. } => of_tracks(sealed, unit, tracks.as_slice(), at),
     }
 }
 
 /// The source that is seen at a position of a unit.
 #[cycle(walk)]
-fn of_unit(units: &[Node], unit: usize, at: u32) -> Option<SourceNo>
-    requires graph { IsGraph units.now }
-    requires there { unit < length units.now }
-    ensures { option_map (λ s. s.0) result ≡ seen (tree_of units.now unit) at }
+fn of_unit(sealed: &Sealed, unit: usize, at: u32) -> Option<SourceNo>
+    requires { unit < length sealed.now.units }
+    ensures { option_map (λ s. s.0) result ≡ seen (tree_of sealed.now.units unit) at }
 {
-    let node = &units[unit];
-    of_body(units, unit, &node.body, at)
+    let node = &sealed.units()[unit];
+    of_body(sealed, unit, &node.body, at)
 }
 
 /// The source whose picture is seen at a position of what is played, if any is.
 pub(crate) fn source_at(sealed: &Sealed, at: u32) -> Option<SourceNo>
     ensures { option_map (λ s. s.0) result ≡ seen (tree sealed.now) at }
 {
-    of_unit(sealed.units(), sealed.top().0 as usize, at)
+    of_unit(sealed, sealed.top().0 as usize, at)
 }

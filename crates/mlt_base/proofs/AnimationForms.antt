@@ -56,7 +56,7 @@ pub record TakesKey (last : Option ℕ) (part : List ℕ) (key : Key) : Type 0 w
   pub frame : key.frame < 2 ^ 31
   pub value : key.value.0 < 2 ^ 32
 
-key_takes : (last : Option ℕ) (at : ℕ) (part : List ℕ) (key : Key) → key_at last at part ≡ Ok key → TakesKey last part key
+pub key_takes : (last : Option ℕ) (at : ℕ) (part : List ℕ) (key : Key) → key_at last at part ≡ Ok key → TakesKey last part key
 unfolding key_at
 key_takes last at part key e =
     let one = bind_ok (digits_at at part) _ key e in
@@ -160,11 +160,11 @@ mark_again at false [] = (at + 1, refl)
 mark_again at false (b ∷ value) = (at + 1, refl)
 mark_again at true value = (at + 2, refl)
 
-no_digit : (discrete : Bool) (value : List ℕ) → digit_count (sign_text discrete value) ≡ 0
+pub no_digit : (discrete : Bool) (value : List ℕ) → digit_count (sign_text discrete value) ≡ 0
 no_digit false value = refl
 no_digit true value = refl
 
-key_again : (last : Option ℕ) (at : ℕ) (part : List ℕ) (key : Key) → IsKey part key → is_behind last key.frame ≡ true → key.frame < 2 ^ 31 → key.value.0 < 2 ^ 32 → key_at last at part ≡ Ok key
+pub key_again : (last : Option ℕ) (at : ℕ) (part : List ℕ) (key : Key) → IsKey part key → is_behind last key.frame ≡ true → key.frame < 2 ^ 31 → key.value.0 < 2 ^ 32 → key_at last at part ≡ Ok key
 unfolding key_at in_order
 key_again last at part key (frame, value, numeral, is, decimal, spelled) behind small held =
     let mark = mark_again (at + length frame) key.discrete value in
@@ -180,12 +180,12 @@ key_again last at part key (frame, value, numeral, is, decimal, spelled) behind 
 
 -- ---- and all of them
 
-Lacks-decimal : (mark : ℕ) (text : List ℕ) (n : ℕ) → mark ≢ 46 → ((mark < 48) ⊎ (57 < mark)) → IsDecimal text n → Lacks mark text
+pub Lacks-decimal : (mark : ℕ) (text : List ℕ) (n : ℕ) → mark ≢ 46 → ((mark < 48) ⊎ (57 < mark)) → IsDecimal text n → Lacks mark text
 Lacks-decimal mark text n ne far (whole, fraction, hw, hf, some, inl (is, none), e) = subst (Lacks mark) (sym is) (Lacks-digits mark whole far hw)
 Lacks-decimal mark text n ne far (whole, fraction, hw, hf, some, inr is, e) =
     subst (Lacks mark) (sym is) (Lacks-append mark whole (46 ∷ fraction) (Lacks-digits mark whole far hw) ((λ e. ne (sym e)), Lacks-digits mark fraction far hf))
 
-Lacks-key : (text : List ℕ) (key : Key) → IsKey text key → Lacks 59 text
+pub Lacks-key : (text : List ℕ) (key : Key) → IsKey text key → Lacks 59 text
 Lacks-key text key (frame, value, numeral, is, decimal, spelled) =
     subst (Lacks 59) (sym spelled) (Lacks-append 59 frame (sign_text key.discrete value) (Lacks-digits 59 frame (inr (omega arith)) numeral.1) (sign key.discrete))
   where
@@ -197,11 +197,11 @@ Lacks-key text key (frame, value, numeral, is, decimal, spelled) =
     sign true = ((λ e. omega (arith, e)), ((λ e. omega (arith, e)), back))
 
 -- a key is not empty, and has an `=`
-key_some : (text : List ℕ) (key : Key) → IsKey text key → (parts : List (List ℕ)) → is_skipped text parts ≡ false
+pub key_some : (text : List ℕ) (key : Key) → IsKey text key → (parts : List (List ℕ)) → is_skipped text parts ≡ false
 key_some text key ([], value, numeral, is, decimal, spelled) parts = absurd (omega (arith, numeral.0))
 key_some text key (b ∷ frame, value, numeral, is, decimal, spelled) parts = ap (λ (t : List ℕ). is_skipped t parts) spelled
 
-any_behind : (front back : List ℕ) → list_any (λ b. eqb b 61) back ≡ true → list_any (λ b. eqb b 61) (front ++ back) ≡ true
+pub any_behind : (front back : List ℕ) → list_any (λ b. eqb b 61) back ≡ true → list_any (λ b. eqb b 61) (front ++ back) ≡ true
 any_behind [] back h = h
 any_behind (b ∷ front) back h = or_right (eqb b 61) (list_any (λ c. eqb c 61) (front ++ back)) (any_behind front back h)
 
@@ -221,16 +221,16 @@ key_equals text key (frame, value, numeral, is, decimal, spelled) =
     sign false = refl
     sign true = refl
 
-keys_equals : (text : List ℕ) (key : Key) (keys : List Key) → AreKeys text key keys → list_any (λ b. eqb b 61) text ≡ true
+pub keys_equals : (text : List ℕ) (key : Key) (keys : List Key) → AreKeys text key keys → list_any (λ b. eqb b 61) text ≡ true
 keys_equals text key [] (inl is) = key_equals text key is
 keys_equals text key [] (inr (front, is, e)) = ap (list_any (λ b. eqb b 61)) e ∙ any_front front (59 ∷ []) (key_equals front key is)
 keys_equals text key (next ∷ keys) (front, rest, is, are, e) = ap (list_any (λ b. eqb b 61)) e ∙ any_front front (59 ∷ rest) (key_equals front key is)
 
-split_none : (text : List ℕ) → Lacks 59 text → slice_split is_semicolon text ≡ text ∷ []
+pub split_none : (text : List ℕ) → Lacks 59 text → slice_split is_semicolon text ≡ text ∷ []
 split_none [] h = refl
 split_none (b ∷ text) h = rw (ne_eqb b 59 h.0, split_none text h.1) refl
 
-split_at : (front back : List ℕ) → Lacks 59 front → slice_split is_semicolon (front ++ 59 ∷ back) ≡ front ∷ slice_split is_semicolon back
+pub split_at : (front back : List ℕ) → Lacks 59 front → slice_split is_semicolon (front ++ 59 ∷ back) ≡ front ∷ slice_split is_semicolon back
 split_at [] back h = refl
 split_at (b ∷ front) back h = rw (ne_eqb b 59 h.0, split_at front back h.1) refl
 
@@ -248,7 +248,7 @@ keys_again last at text key (next ∷ keys) (front, rest, is, are, e) rise held 
     ∙ (ap (keys_of last at) (split_at front rest (Lacks-key front key is))
     ∙ step last at front (slice_split is_semicolon rest) key (next ∷ keys) is rise held (keys_again (Some key.frame) (at + length front + 1) rest next keys are rise.2 held.1))
 
-any_none : (text : List ℕ) → Lacks 61 text → list_any (λ b. eqb b 61) text ≡ false
+pub any_none : (text : List ℕ) → Lacks 61 text → list_any (λ b. eqb b 61) text ≡ false
 any_none [] h = refl
 any_none (b ∷ text) h = rw (ne_eqb b 61 h.0) (any_none text h.1)
 

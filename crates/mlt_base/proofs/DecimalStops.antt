@@ -9,7 +9,7 @@ use Rattle.mlt_base.specs.Decimal.{fraction_at, point_at, decimal_parts, decimal
 use Rattle.mlt_base.specs.Grammar.{IsDecimal, IsDecimalText}
 use Rattle.mlt_base.proofs.Forms.{AreDigits-take, AreDigits-all, digit_count-append, digit_count-le, digits_end}
 use Rattle.mlt_base.proofs.DecimalForms.{parts_begin, whole_decimal}
-use Rattle.mlt_base.proofs.Stops.{Told, Missing, Right, Never, IsNone, Sized, below_sized, below_unfit, first_none, first_is, first_no_digit, wrong_here, told_behind, told_then}
+use Rattle.mlt_base.proofs.Stops.{Told, Missing, Right, Never, IsNone, Sized, below_sized, below_unfit, first_none, first_is, some_first, first_no_digit, wrong_here, told_behind, told_then}
 use Rattle.mlt_base.proofs.NumeralStops.{zero_numeral, one_more}
 
 -- digits on both sides of the `.`, one at least
@@ -29,11 +29,7 @@ fraction_empty : (at : ℕ) (whole : List ℕ) → whole ≡ [] → fraction_at 
 unfolding fraction_at
 fraction_empty at whole none = ap (λ (w : List ℕ). fraction_at at w []) none ∙ ap (λ (n : ℕ). Err (BadDigit (held n))) (omega arith)
 
--- the text can't be empty in front of a byte
-some_first : (other rest : List ℕ) → take 1 other ≡ take 1 rest → 0 < length rest → 0 < length other
-some_first other [] e some = absurd (omega arith)
-some_first other (b ∷ rest) e some = let (more, is) = first_is other b e in omega (arith, ap length is)
-
+-- what stands behind the `.`
 fraction_told : (at : ℕ) (whole fraction : List ℕ) → AreDigits whole → Told Never (λ t. Texts IsDecimal (whole ++ 46 ∷ t)) (fraction_at at whole) at fraction
 fraction_told at whole fraction hw = go (cases_lt n (length fraction)) (cases_lt 0 (length whole + length fraction))
   where
@@ -65,6 +61,7 @@ fraction_told at whole fraction hw = go (cases_lt n (length fraction)) (cases_lt
         (λ other e. ap (fraction_at at whole) (first_none other (e ∙ ap (take 1) no_fraction)) ∙ fraction_empty at whole (nil_from_length whole (omega arith)))
         (decimal_there (whole ++ 46 ∷ (48 ∷ [])) whole (48 ∷ []) hw zero_numeral.1 (omega arith) (inr refl))
 
+-- what stands behind the first digits
 point_told : (at : ℕ) (whole rest : List ℕ) → AreDigits whole → 0 < length whole + length rest → Told Never (λ t. Texts IsDecimal (whole ++ t)) (point_at at whole) at rest
 unfolding point_at
 point_told at whole [] hw some = Right (decimal_there (whole ++ []) whole [] hw tt some (inl (append-nil whole, refl)))
@@ -83,6 +80,7 @@ point_told at whole (b ∷ rest) hw some = go (eqb b 46) refl
         (λ other e. let (behind, is) = first_is other b e in ap (point_at at whole) is ∙ rw h refl)
         (decimal_there (whole ++ 48 ∷ []) (whole ++ 48 ∷ []) [] more.1 tt (omega (arith, more.0)) (inl (refl, refl)))
 
+-- the digits on both sides
 parts_told : (at : ℕ) (text : List ℕ) → Told IsNone (Texts IsDecimal) (decimal_parts at) at text
 parts_told at [] = Missing refl
 parts_told at (b ∷ bytes) =
@@ -115,17 +113,20 @@ parts_told at (b ∷ bytes) =
         let n : digit_count (whole ++ other) ≡ length whole = digit_count-append whole other (AreDigits-take text) ∙ omega (arith, none) in
         parts_begin at (whole ++ other) some ∙ rw (n, take_at whole other (length whole) refl, drop_at whole other (length whole) refl) refl
 
+-- a decimal number, from any place on
 pub decimal_told : (at : ℕ) (text : List ℕ) → Told IsNone (Texts IsDecimal) (decimal at) at text
 unfolding decimal
 decimal_told at text = told_then IsNone (Texts IsDecimal) (decimal_parts at) (λ parts. below (2 ^ 32) (decimal_value parts.0 parts.1)) at text (parts_told at text)
 
-pub decimal_missing : (text : List ℕ) → IsNone text → decimal 0 text ≡ Err Empty
+-- nothing is there, so that is told
+pub decimal_missing : (at : ℕ) (text : List ℕ) → IsNone text → decimal at text ≡ Err Empty
 unfolding decimal decimal_parts
-decimal_missing text e = ap (decimal 0) e
+decimal_missing at text e = ap (decimal at) e
 
-pub decimal_sized : (text : List ℕ) → Texts IsDecimal text → Sized (decimal 0 text)
-decimal_sized text (n, is) = subst Sized (sym (whole_decimal 0 text n is)) (below_sized (2 ^ 32) n)
+-- a decimal number is read, or is too large
+pub decimal_sized : (at : ℕ) (text : List ℕ) → Texts IsDecimal text → Sized (decimal at text)
+decimal_sized at text (n, is) = subst Sized (sym (whole_decimal at text n is)) (below_sized (2 ^ 32) n)
 
 -- a number that is too large doesn't fit
-pub decimal_unfit : (text : List ℕ) (n : ℕ) → IsDecimal text n → decimal 0 text ≡ Err TooLarge → 2 ^ 32 ≤ n
-decimal_unfit text n is e = below_unfit (2 ^ 32) n (sym (whole_decimal 0 text n is) ∙ e)
+pub decimal_unfit : (at : ℕ) (text : List ℕ) (n : ℕ) → IsDecimal text n → decimal at text ≡ Err TooLarge → 2 ^ 32 ≤ n
+decimal_unfit at text n is e = below_unfit (2 ^ 32) n (sym (whole_decimal at text n is) ∙ e)

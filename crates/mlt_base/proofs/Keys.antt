@@ -30,7 +30,7 @@ undivided p (x ∷ xs) h = go (p x) h (undivided p xs)
     go false h rest = ap (onto_first x) (rest (omega arith))
 
 -- only an empty part with none behind it is skipped
-not_skipped : (part : List ℕ) (parts : List (List ℕ)) → 0 < length part + length parts → is_skipped part parts ≡ false
+pub not_skipped : (part : List ℕ) (parts : List (List ℕ)) → 0 < length part + length parts → is_skipped part parts ≡ false
 not_skipped [] [] h = absurd (omega arith)
 not_skipped [] (part ∷ parts) h = refl
 not_skipped (b ∷ part) parts h = refl

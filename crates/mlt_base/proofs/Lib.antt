@@ -10,6 +10,11 @@ pub mod NumeralStops
 pub mod WholeStops
 pub mod DecimalStops
 pub mod TimeStops
+pub mod AnimationParts
+pub mod AnimationMarks
+pub mod AnimationFaults
+pub mod AnimationStops
+pub mod AnimationPlaces
 pub mod WholeForms
 pub mod ProfileForms
 pub mod GeometryForms

@@ -25,6 +25,7 @@ numeral_case bytes = go (eqb (digit_count bytes) 0) refl
         let long : length (take (digit_count bytes) bytes) ≡ digit_count bytes = length-take-le (digit_count bytes) bytes (digit_count-le bytes) in
         Numeral (take (digit_count bytes) bytes) (drop (digit_count bytes) bytes) (omega (arith, long, eqb-false (digit_count bytes) 0 h), AreDigits-take bytes) (digits_end bytes) (sym (take-append-drop (digit_count bytes) bytes))
 
+-- no numeral is read where no digit is
 pub digits_none : (at : ℕ) (bytes : List ℕ) → digit_count bytes ≡ 0 → digits_at at bytes ≡ Err (BadDigit (held at))
 unfolding digits_at
 digits_none at bytes none = rw none refl

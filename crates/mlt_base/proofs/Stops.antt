@@ -14,6 +14,7 @@ use Rattle.mlt_base.proofs.Below.{below_ok}
 
 -- ---- a text leaves a grammar at one place
 
+-- no earlier place and a later one
 stops_before : (Good : List ℕ → Type 0) (text : List ℕ) (a b : ℕ) → a < b → StopsAt Good text a → ¬ StopsAt Good text b
 stops_before Good text a b less first second =
     let (rest, good) = second.before in
@@ -28,6 +29,22 @@ stops_once Good text a b first second =
       | inl lt ↦ absurd (stops_before Good text a b lt first second)
       | inr le ↦ elim (cases_lt b a) [ inl lt ↦ absurd (stops_before Good text b a lt second first) | inr ge ↦ omega arith ]
     ]
+
+-- behind a front and so many bytes, where each text that goes on with the same byte is bad, which no good one is
+pub stops_from : (Good Bad : List ℕ → Type 0) → ((text : List ℕ) → Good text → ¬ Bad text) → (front rest : List ℕ) (k : ℕ) → k ≤ length rest
+    → ((other : List ℕ) → take (k + 1) other ≡ take (k + 1) rest → Bad (front ++ other)) → (more : List ℕ) → Good (front ++ (take k rest ++ more)) → StopsAt Good (front ++ rest) (length front + k)
+stops_from Good Bad never front rest k within bad more good = record {
+  within = omega (arith, length-append front rest);
+  before = (more, subst Good (sym (begun k more)) good);
+  behind = λ less (last, there).
+      let on : length front + k + 1 ≡ length front + (k + 1) = omega arith in
+      let same : take (k + 1) (take (k + 1) rest ++ last) ≡ take (k + 1) rest = take_at (take (k + 1) rest) last (k + 1) (length-take-le (k + 1) rest (omega (arith, length-append front rest))) in
+      never (front ++ (take (k + 1) rest ++ last)) (subst Good (ap (λ (n : ℕ). take n (front ++ rest) ++ last) on ∙ begun (k + 1) last) there) (bad (take (k + 1) rest ++ last) same);
+  unfinished = λ there. never (front ++ rest) there (bad rest refl);
+}
+  where
+    begun : (n : ℕ) (more : List ℕ) → take (length front + n) (front ++ rest) ++ more ≡ front ++ (take n rest ++ more)
+    begun n more = ap (λ (l : List ℕ). l ++ more) (take-append-add front rest n) ∙ append_assoc front (take n rest) more
 
 -- ---- texts that begin with the same bytes
 
@@ -60,6 +77,7 @@ same_first k other rest e = sym (first other) ∙ (ap (take 1) e ∙ first rest)
     first [] = ap (λ (n : ℕ). take 1 (take n [])) on
     first (b ∷ text) = ap (λ (n : ℕ). take 1 (take n (b ∷ text))) on
 
+-- no byte, or this one
 pub first_none : (other : List ℕ) → take 1 other ≡ [] → other ≡ []
 first_none [] e = refl
 first_none (b ∷ other) e = absurd cc
@@ -67,6 +85,11 @@ first_none (b ∷ other) e = absurd cc
 pub first_is : (other : List ℕ) (b : ℕ) → take 1 other ≡ b ∷ [] → (more : List ℕ) × (other ≡ b ∷ more)
 first_is [] b e = absurd cc
 first_is (c ∷ other) b e = (other, let same : c ≡ b = cc in cc)
+
+-- one of them has a byte, so the other has
+pub some_first : (other rest : List ℕ) → take 1 other ≡ take 1 rest → 0 < length rest → 0 < length other
+some_first other [] e some = absurd (omega arith)
+some_first other (b ∷ rest) e some = let (more, is) = first_is other b e in omega (arith, ap length is)
 
 -- no digit is the first of one of them, so it isn't the first of the other
 pub first_no_digit : (other rest : List ℕ) → take 1 other ≡ take 1 rest → digit_count rest ≡ 0 → digit_count other ≡ 0
@@ -145,6 +168,7 @@ told_then Nothing Good read f at text (Wrong k stuck begins) = Wrong k (record {
 abbrev pub Sized : {A : Type 0} → Result A NumFault → Type 0
 Sized r = ((x : _) × (r ≡ Ok x)) ⊎ (r ≡ Err TooLarge)
 
+-- a number that is held against a limit
 pub below_sized : (limit n : ℕ) → Sized (below limit n)
 unfolding below
 below_sized limit n = go (ltb n limit)
@@ -165,6 +189,7 @@ module _ {A : Type 0} (Nothing Good : List ℕ → Type 0) (read : List ℕ → 
       go (inl (x, is)) = absurd cc
       go (inr is) = absurd cc
 
+  -- where the reader sticks the text can't go on
   stuck_stops : (text : List ℕ) (k : ℕ) → Sticks read 0 text k → Begins Good (take k text) → StopsAt Good text k
   stuck_stops text k stuck begins = record {
     within = stuck.within;
@@ -173,10 +198,12 @@ module _ {A : Type 0} (Nothing Good : List ℕ → Type 0) (read : List ℕ → 
     unfinished = λ good. not_bad text (held (0 + k)) good (stuck.again text refl);
   }
 
+  -- a place in a text that is short enough
   place_is : (text : List ℕ) (k : ℕ) → length text < 2 ^ 32 → k ≤ length text → held (0 + k) ≡ k
   unfolding held
   place_is text k short within = omega arith
 
+  -- empty exactly where nothing is there
   pub law_empty : (text : List ℕ) → read text ≡ Err Empty ↔ Nothing text
   law_empty text = ((λ e. go e (told text)), missing text)
     where
@@ -189,6 +216,7 @@ module _ {A : Type 0} (Nothing Good : List ℕ → Type 0) (read : List ℕ → 
           right (inl (x, is)) = absurd cc
           right (inr is) = absurd cc
 
+  -- a bad byte exactly where something is there that can't go on
   pub law_bad : (text : List ℕ) (at : ℕ) → length text < 2 ^ 32 → read text ≡ Err (BadDigit at) ↔ ((¬ Nothing text) × StopsAt Good text at)
   law_bad text at short = ((λ e. stops e (told text)), λ (some, stop). bad some stop (told text))
     where
@@ -205,6 +233,7 @@ module _ {A : Type 0} (Nothing Good : List ℕ → Type 0) (read : List ℕ → 
       bad some stop (Right good) = absurd (stop.unfinished good)
       bad some stop (Wrong k stuck begins) = stuck.again text refl ∙ ap (λ (n : ℕ). Err (BadDigit n)) (place_is text k short stuck.within ∙ stops_once Good text k at (stuck_stops text k stuck begins) stop)
 
+  -- too large only where the text is good
   pub law_large : (text : List ℕ) → read text ≡ Err TooLarge → Good text
   law_large text e = go (told text)
     where

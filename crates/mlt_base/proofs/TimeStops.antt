@@ -46,6 +46,7 @@ first_three text more =
     let long : length (take 3 text) ≡ 3 = length-take-le 3 text (omega (arith, more, digit_count-le text)) in
     subst IsFraction (sym (append-nil (take 3 text))) ((omega (arith, long), AreDigits-all (take 3 text) (digit_count-take 3 text ∙ omega (arith, long, more))), omega (arith, long))
 
+-- one to three digits that are the last
 fraction_told : (at : ℕ) (bytes : List ℕ) → Told Never IsFraction (fraction_digits at) at bytes
 unfolding fraction_digits end_at
 fraction_told at bytes = go (numeral_case bytes) (cases_lt 3 (digit_count bytes))
@@ -68,6 +69,7 @@ fraction_told at bytes = go (numeral_case bytes) (cases_lt 3 (digit_count bytes)
 
 -- ---- a clock
 
+-- what stands behind the seconds
 seconds_told : (h m s : List ℕ) (at : ℕ) (rest : List ℕ) → IsClock h m s → Told Never (λ t. Texts IsTime (clock_text h m s ++ t)) (behind_seconds h m s at) at rest
 unfolding behind_seconds
 seconds_told h m s at [] clock = Right (Clock h m s [], (clock, inl (refl, append-nil (clock_text h m s))))
@@ -96,6 +98,7 @@ seconds_told h m s at (b ∷ rest) clock = go (eqb b 58) (eqb b 46) refl refl
 minutes_there : (h m : List ℕ) → IsNumeral h → IsNumeral m → Texts IsTime (h ++ 58 ∷ (m ++ 58 ∷ 48 ∷ []))
 minutes_there h m hours minutes = (Clock h m (48 ∷ []) [], ((hours, minutes, zero_numeral), inl (refl, refl)))
 
+-- what stands behind the minutes
 minutes_told : (h m : List ℕ) (at : ℕ) (bytes : List ℕ) → IsNumeral h → IsNumeral m → Told Never (λ t. Texts IsTime (h ++ 58 ∷ (m ++ t))) (behind_minutes h m at) at bytes
 minutes_told h m at bytes hours minutes =
     mark_told (λ t. Texts IsTime (h ++ 58 ∷ (m ++ t))) (λ second. digits_at second.0 second.1 >>= λ seconds. behind_seconds h m seconds.0 seconds.1 seconds.2) 58 at bytes (58 ∷ 48 ∷ []) (minutes_there h m hours minutes)
@@ -109,9 +112,11 @@ minutes_told h m at bytes hours minutes =
 hours_there : (h : List ℕ) → IsNumeral h → Texts IsTime (h ++ 58 ∷ 48 ∷ 58 ∷ 48 ∷ [])
 hours_there h hours = minutes_there h (48 ∷ []) hours zero_numeral
 
+-- frames alone
 frames_there : (digits : List ℕ) → IsNumeral digits → Texts IsTime (digits ++ [])
 frames_there digits numeral = (Frames digits, (numeral, append-nil digits))
 
+-- what stands behind the hours
 hours_told : (h : List ℕ) (at : ℕ) (bytes : List ℕ) → IsNumeral h → Told Never (λ t. Texts IsTime (h ++ t)) (behind_hours h at) at bytes
 unfolding behind_hours
 hours_told h at bytes hours =
@@ -119,6 +124,7 @@ hours_told h at bytes hours =
     (λ rest is. digits_told (λ t. Texts IsTime (h ++ 58 ∷ t)) (λ minutes. behind_minutes h minutes.0 minutes.1 minutes.2) (at + 1) rest (48 ∷ 58 ∷ 48 ∷ []) (hours_there h hours)
     (λ m behind numeral none is. minutes_told h m (at + 1 + length m) behind hours numeral))
 
+-- what stands behind the first digits
 first_told : (digits : List ℕ) (at : ℕ) (bytes : List ℕ) → IsNumeral digits → Told Never (λ t. Texts IsTime (digits ++ t)) (behind_first digits at) at bytes
 unfolding behind_first
 first_told digits at [] numeral = Right (frames_there digits numeral)
@@ -127,6 +133,7 @@ first_told digits at (b ∷ rest) numeral =
     (λ other e. let (more, is) = first_is other b e in ap (behind_first digits at) is ∙ ap (behind_hours digits at) (sym is)) (λ other h. h) (λ other h. h)
     (subst (λ (n : ℕ). Told Never (λ t. Texts IsTime (digits ++ t)) (behind_hours digits at) n (b ∷ rest)) (omega arith) (hours_told digits at (b ∷ rest) numeral))
 
+-- the form of a time
 form_told : (text : List ℕ) → Told IsNone (Texts IsTime) form_of 0 text
 unfolding form_of
 form_told [] = Missing refl
@@ -142,10 +149,12 @@ pub time_told : (num den : ℕ) (text : List ℕ) → Told IsNone (Texts IsTime)
 unfolding time
 time_told num den text = told_then IsNone (Texts IsTime) form_of (λ form. below (2 ^ 31) (frames_of num den form)) 0 text (form_told text)
 
+-- nothing is there, so that is told
 pub time_missing : (num den : ℕ) (text : List ℕ) → IsNone text → time num den text ≡ Err Empty
 unfolding time form_of
 time_missing num den text e = ap (time num den) e
 
+-- a time is read, or is too large
 pub time_sized : (num den : ℕ) (text : List ℕ) → Texts IsTime text → Sized (time num den text)
 time_sized num den text (form, is) = subst Sized (sym (whole_time num den text form is)) (below_sized (2 ^ 31) (frames_of num den form))
 

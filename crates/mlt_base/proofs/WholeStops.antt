@@ -13,6 +13,7 @@ use Rattle.mlt_base.proofs.Stops.{Told, Missing, Never, IsNone, Sized, first_is,
 use Rattle.mlt_base.proofs.NumeralStops.{numeral_told}
 use Rattle.mlt_base.proofs.WholeForms.{whole_again, whole_accepted}
 
+-- one or more digits and nothing behind them
 to_end_told : (at : ℕ) (bytes : List ℕ) → Told IsNone IsNumeral (digits_to_end at) at bytes
 unfolding digits_to_end
 to_end_told at [] = Missing refl
@@ -26,6 +27,7 @@ to_end_told at (b ∷ bytes) =
 abbrev pub LacksDigits : List ℕ → Type 0
 LacksDigits text = (text ≡ []) ⊎ (text ≡ 45 ∷ [])
 
+-- a whole number
 pub whole_told : (text : List ℕ) → Told LacksDigits (Texts IsWhole) whole 0 text
 unfolding whole
 whole_told [] = Missing (inl refl)
@@ -43,6 +45,7 @@ whole_told (b ∷ bytes) = go (eqb b 45) refl
         (λ other e. inl e) (λ other numeral. (whole_value false other, (false, other, numeral, refl, refl)))
         (told_then IsNone IsNumeral (digits_to_end 0) (λ digits. positive (number digits)) 0 (b ∷ bytes) (to_end_told 0 (b ∷ bytes)))
 
+-- nothing is there, so that is told
 pub whole_missing : (text : List ℕ) → LacksDigits text → whole text ≡ Err Empty
 unfolding whole digits_to_end
 whole_missing text (inl e) = ap whole e
@@ -65,6 +68,7 @@ down n = go (leb n (2 ^ 63))
     go true = inl (neg_ℤ (pos n), refl)
     go false = inr refl
 
+-- a whole number is read, or is too large
 pub whole_sized : (text : List ℕ) → Texts IsWhole text → Sized (whole text)
 whole_sized text (z, (sign, digits, numeral, spelled, is)) = subst Sized (sym (ap whole spelled ∙ whole_again sign digits numeral)) (go sign)
   where

@@ -28,8 +28,8 @@ abbrev pub next : ℕ → ℕ → ℕ
 next pixels place = min (place / 65536 + 1) (pixels - 1)
 
 -- a share of z in 65536 parts and the rest of x, in those parts
-abbrev pub between : ℕ → ℕ → ℕ → ℕ
-between share x z = x * (65536 - share) + z * share
+abbrev pub weighed : ℕ → ℕ → ℕ → ℕ
+weighed share x z = x * (65536 - share) + z * share
 
 -- a channel of the pixel at column x of row y, in rows of a width
 abbrev pub channel_at : List ℕ → ℕ → ℕ → ℕ → ℕ → ℕ
@@ -38,15 +38,15 @@ channel_at pixels width x y channel = slice_index pixels ((y * width + x) * 4 + 
 -- a channel at a place of row y, between two pixels
 abbrev pub across : List ℕ → ℕ → ℕ → ℕ → ℕ → ℕ
 across pixels width place y channel =
-    between (place % 65536) (channel_at pixels width (place / 65536) y channel) (channel_at pixels width (next width place) y channel)
+    weighed (place % 65536) (channel_at pixels width (place / 65536) y channel) (channel_at pixels width (next width place) y channel)
 
 -- a byte between two such values of two rows, to the nearest whole number
 abbrev pub down : ℕ → ℕ → ℕ → ℕ
-down share top bottom = (between share top bottom + 2147483648) / 4294967296
+down share top bottom = (weighed share top bottom + 2147483648) / 4294967296
 
 -- a channel at column x and row y, which are places, between four pixels
-abbrev pub value_at : Picture → ℕ → ℕ → ℕ → ℕ
-value_at source x y channel =
+unfoldable pub spot_at : Picture → ℕ → ℕ → ℕ → ℕ
+spot_at source x y channel =
     down (y % 65536) (across source.pixels source.width x (y / 65536) channel) (across source.pixels source.width x (next source.height y) channel)
 
 -- ---- pictures; byte k is of pixel k / 4 and channel k % 4
@@ -54,18 +54,18 @@ value_at source x y channel =
 -- a channel of the pixel at column u of row v of a source stretched to a width and a height
 abbrev pub stretched_at : Picture → ℕ → ℕ → ℕ → ℕ → ℕ → ℕ
 stretched_at source width height u v channel =
-    value_at source (along source.width width u) (along source.height height v) channel
+    spot_at source (along source.width width u) (along source.height height v) channel
 
 -- byte k of a source stretched to a width and a height
 abbrev pub stretched : Picture → ℕ → ℕ → ℕ → ℕ
 stretched source width height k = stretched_at source width height (k / 4 % width) (k / 4 / width) (k % 4)
 
--- a channel at column x of row y of a frame whose inner picture is so wide and so high: transparent black outside it
-abbrev pub framed : Picture → ℕ → ℕ → ℕ → ℕ → ℕ → ℕ → ℕ → ℕ
-framed source width height wide high x y channel =
-    if is_taken width wide x && is_taken height high y then stretched_at source wide high (x - inset width wide) (y - inset height high) channel else 0
+-- byte k of a frame whose inner picture is a source stretched to so wide and so high; outside it is transparent black
+unfoldable pub framed : Picture → ℕ → ℕ → ℕ → ℕ → ℕ → ℕ
+framed source width height wide high k =
+    if is_taken width wide (k / 4 % width) && is_taken height high (k / 4 / width) then stretched_at source wide high (k / 4 % width - inset width wide) (k / 4 / width - inset height high) (k % 4) else 0
 
 -- byte k of a source fitted into a frame
 abbrev pub fitted : Picture → ℕ → ℕ → ℕ → ℕ
 fitted source width height k =
-    framed source width height (inner source.width source.height width height) (inner source.height source.width height width) (k / 4 % width) (k / 4 / width) (k % 4)
+    framed source width height (inner source.width source.height width height) (inner source.height source.width height width) k

@@ -1,14 +1,15 @@
 -- Which texts are numbers, times, profiles, geometries and animations, and what they mean, said apart from any reader.
-use Rattle.std.specs.Prelude.{◌≡◌, ℕ, ◌+◌, ◌*◌, ◌/◌, ◌^◌, ◌<◌, ◌≤◌, ◌⊎◌, Bool, true, false, min, max, ℤ, pos, neg_ℤ, unsigned_abs, List, [], ◌∷◌, ◌++◌, length}
+use Rattle.std.specs.Prelude.{◌≡◌, ℕ, ◌+◌, ◌*◌, ◌/◌, ◌^◌, ◌<◌, ◌≤◌, ◌⊎◌, Bool, true, false, Option, Some, None, min, max, ℤ, pos, neg_ℤ, unsigned_abs, List, [], ◌∷◌, ◌++◌, length}
 use Rattle.std.specs.List.{Any}
 use Rattle.mlt_base.specs.declared.table.TheConstants.{PROFILES}
 use Rattle.mlt_base.specs.Name.{name_of}
 use Rattle.mlt_base.specs.Profile.{Measures, row_measures}
 use Rattle.mlt_base.specs.Geometry.{Rectangle, hundredths}
 use Rattle.mlt_base.specs.declared.animation.Key.{Key}
-use Rattle.mlt_base.specs.Animation.{constant}
-use Rattle.mlt_base.specs.Reading.{AreDigits, IsNumeral, number}
+use Rattle.mlt_base.specs.Animation.{is_behind, Rises, constant}
+use Rattle.mlt_base.specs.Reading.{AreDigits, IsNumeral, digit_count, number}
 use Rattle.mlt_base.specs.Decimal.{decimal_value}
+use Rattle.mlt_base.specs.Stop.{StopsAt}
 use Rattle.mlt_base.specs.Time.{Form, Frames, Clock, Counted}
 
 -- digits, or `-` and digits
@@ -130,3 +131,71 @@ IsAnimation text (key ∷ keys) = AreKeys text key keys ⊎ (IsDecimal text key.
 abbrev pub AreHeld : List Key → Type 0
 AreHeld [] = Unit {0}
 AreHeld (key ∷ keys) = (key.value.0 < 2 ^ 32) × AreHeld keys
+
+-- ---- animations that aren't read
+
+-- the text has an `=`, as all texts of keys
+abbrev pub HasEquals : List ℕ → Type 0
+HasEquals text = (front : List ℕ) × (rest : List ℕ) × (text ≡ front ++ 61 ∷ rest)
+
+-- the text is keys, whatever they are
+abbrev pub IsKeys : List ℕ → Type 0
+IsKeys text = (key : Key) × (keys : List Key) × AreKeys text key keys
+
+-- `|` stands at this place, and behind it the text can't go on
+abbrev pub IsHalfMark : List ℕ → ℕ → Type 0
+IsHalfMark text at = (front : List ℕ) × (rest : List ℕ) × (text ≡ front ++ 124 ∷ rest) × (at ≡ length front) × StopsAt IsKeys text (at + 1)
+
+-- the place of a bad byte: where the text can't go on, or the `|` in front of it
+abbrev pub IsBadAt : List ℕ → ℕ → Type 0
+IsBadAt text at = (StopsAt IsKeys text at × ((bar : ℕ) → ¬ IsHalfMark text bar)) ⊎ IsHalfMark text at
+
+-- keys with `;` behind each
+abbrev pub AreBefore : List ℕ → List Key → Type 0
+AreBefore text [] = text ≡ []
+AreBefore text (key ∷ keys) = (front : List ℕ) × (rest : List ℕ) × IsKey front key × AreBefore rest keys × (text ≡ front ++ 59 ∷ rest)
+
+-- behind keys that can be read stands this, said of them, of the place where the next part begins and of what is there
+abbrev pub HasPart : (List Key → ℕ → List ℕ → Type 0) → List ℕ → Type 0
+HasPart Says text =
+    (front : List ℕ) × (keys : List Key) × (rest : List ℕ)
+    × AreBefore front keys × Rises None keys × AreHeld keys × Says keys (length front) rest × (text ≡ front ++ rest)
+
+-- the frame of the last key
+abbrev pub last_frame : List Key → Option ℕ
+last_frame [] = None
+last_frame (key ∷ []) = Some key.frame
+last_frame (key ∷ next ∷ keys) = last_frame (next ∷ keys)
+
+-- a frame that isn't too large, and behind it stands this, said of its number, of the place and of what is there
+abbrev pub HasFrame : (ℕ → ℕ → List ℕ → Type 0) → ℕ → List ℕ → Type 0
+HasFrame Says start part =
+    (frame : List ℕ) × (rest : List ℕ) × IsNumeral frame × (number frame < 2 ^ 31) × Says (number frame) (start + length frame) rest × (part ≡ frame ++ rest)
+
+-- the next part, which begins at this place, has a frame that isn't behind the last key's
+abbrev pub IsUnordered : List ℕ → ℕ → Type 0
+IsUnordered text at =
+    HasPart (λ keys start. HasFrame (λ frame end rest. (discrete : Bool) × (value : List ℕ) × (rest ≡ sign_text discrete value) × (is_behind (last_frame keys) frame ≡ false) × (at ≡ start)) start) text
+
+-- the next part has the mark `~=` at this place
+abbrev pub IsSmooth : List ℕ → ℕ → Type 0
+IsSmooth text at = HasPart (λ keys. HasFrame (λ frame end rest. (value : List ℕ) × (rest ≡ 126 ∷ 61 ∷ value) × (at ≡ end))) text
+
+-- the end of a part: the text's, or `;`
+abbrev pub IsEnd : List ℕ → Type 0
+IsEnd rest = (rest ≡ []) ⊎ ((more : List ℕ) × (rest ≡ 59 ∷ more))
+
+-- the next part has a frame in order, a mark, and a value of which this is said
+abbrev pub HasValue : (List ℕ → Type 0) → List ℕ → Type 0
+HasValue Says text =
+    HasPart (λ keys. HasFrame (λ frame end rest. (discrete : Bool) × (value : List ℕ) × (more : List ℕ) × (is_behind (last_frame keys) frame ≡ true) × Says value × IsEnd more × (rest ≡ sign_text discrete (value ++ more)))) text
+
+-- the next part has a frame or a value that is too large
+abbrev pub HasLarge : List ℕ → Type 0
+HasLarge text =
+    HasPart (λ keys start part. (frame : List ℕ) × (rest : List ℕ) × IsNumeral frame × (digit_count rest ≡ 0) × (2 ^ 31 ≤ number frame) × (part ≡ frame ++ rest)) text
+    ⊎ HasValue (λ value. (n : ℕ) × IsDecimal value n × (2 ^ 32 ≤ n)) text
+
+-- the next part has another fault than a bad byte
+abbrev pub HasOther : List ℕ → Type 0
+HasOther text = HasLarge text ⊎ HasValue (λ value. value ≡ []) text ⊎ ((at : ℕ) × IsUnordered text at) ⊎ ((at : ℕ) × IsSmooth text at)

@@ -7,7 +7,7 @@
 ghost use Rattle.std.specs.Prelude.{◌≡◌, ◌≢◌, ℕ, ◌^◌, ◌<◌, ◌≤◌, ◌⊎◌, ◌↔◌, ℤ, FitsSigned, List, [], ◌∷◌, ◌++◌, length, Some, None, Ok, Err};
 ghost use Rattle.std.specs.Int.{w64};
 ghost use Rattle.std.specs.List.{All};
-ghost use Rattle.mlt_base.specs.declared.fault.NumFault.TheVariants.{Empty, BadDigit, TooLarge};
+ghost use Rattle.mlt_base.specs.declared.fault.NumFault.TheVariants.{Empty, BadDigit, TooLarge, Order, Smooth};
 ghost use Rattle.mlt_base.specs.declared.fault.PpmFault.TheVariants as picture;
 ghost use Rattle.mlt_base.specs.Whole.{whole};
 ghost use Rattle.mlt_base.specs.Decimal.{decimal};
@@ -21,7 +21,7 @@ ghost use Rattle.mlt_base.specs.Geometry.{Rectangle, geometry};
 ghost use Rattle.mlt_base.specs.Still.{Picture};
 ghost use Rattle.mlt_base.specs.Stop.{Texts, StopsAt};
 ghost use Rattle.mlt_base.specs.Ppm.{HasHeader, IsPpm, IsLarge, IsShort, IsBadNumber, ppm};
-ghost use Rattle.mlt_base.specs.Grammar.{IsWhole, IsDecimal, IsTime, IsNamed, IsProfile, IsWithin, IsGeometry, IsAnimation, AreHeld};
+ghost use Rattle.mlt_base.specs.Grammar.{IsWhole, IsDecimal, IsTime, IsNamed, IsProfile, IsWithin, IsGeometry, IsAnimation, AreHeld, HasEquals, IsBadAt, IsUnordered, IsSmooth, HasValue, HasLarge, HasOther};
 
 /// Exactly the whole numbers that fit are read, each as itself; the others are too large.
 pub fn whole_numbers()
@@ -88,6 +88,19 @@ pub fn geometries()
 pub fn animations()
     ensures accepted { (text : List ℕ) (keys : List Key) → IsAnimation text keys → Rises None keys → AreHeld keys → animation text ≡ Ok keys }
     ensures only { (text : List ℕ) (keys : List Key) → animation text ≡ Ok keys → IsAnimation text keys × Rises None keys × AreHeld keys }
+{}
+
+/// What each fault of an animation says. A text without `=` has the faults of its one value. In a text of
+/// keys the first part that isn't read is told: its frame or its value is too large, its mark is `~=`, its
+/// frame isn't behind the one before, or it has no value. Else a bad digit is the place where the text can't
+/// go on as keys, or ends too soon; where `|` stands there without its `=`, it is the place of the `|`.
+pub fn animation_faults()
+    ensures empty { (text : List ℕ) → animation text ≡ Err Empty ↔ ((text ≡ []) ⊎ HasValue (λ value. value ≡ []) text) }
+    ensures bad_value { (text : List ℕ) (at : ℕ) → length text < 2 ^ 32 → ¬ HasEquals text → animation text ≡ Err (BadDigit at) ↔ ((text ≢ []) × StopsAt (Texts IsDecimal) text at) }
+    ensures bad_digit { (text : List ℕ) (at : ℕ) → length text < 2 ^ 32 → HasEquals text → animation text ≡ Err (BadDigit at) ↔ (IsBadAt text at × ¬ HasOther text) }
+    ensures too_large { (text : List ℕ) → animation text ≡ Err TooLarge ↔ (((n : ℕ) × IsDecimal text n × (2 ^ 32 ≤ n)) ⊎ (HasEquals text × HasLarge text)) }
+    ensures order { (text : List ℕ) (at : ℕ) → length text < 2 ^ 32 → animation text ≡ Err (Order at) ↔ IsUnordered text at }
+    ensures smooth { (text : List ℕ) (at : ℕ) → length text < 2 ^ 32 → animation text ≡ Err (Smooth at) ↔ IsSmooth text at }
 {}
 
 /// Before its first key an animation has the first value, from its last key on the last one, and from

@@ -1,7 +1,7 @@
 -- A unit is put behind the others of a graph.
-use Rattle.std.proofs.Common.{◌≡◌, ℕ, ◌+◌, ◌<◌, ◌≤◌, ◌^◌, ◌⊎◌, inl, inr, List, [], ◌∷◌, ◌++◌, length, get_or, sym, ◌∙◌, subst, arith, length-append}
+use Rattle.std.proofs.Common.{◌≡◌, ℕ, ◌+◌, ◌<◌, ◌≤◌, ◌^◌, ◌⊎◌, inl, inr, List, [], ◌∷◌, ◌++◌, length, get_or, map, sym, ap, ◌∙◌, subst, arith, length-append}
 use Rattle.std.proofs.lemmas.Bool.{cases_lt}
-use Rattle.std.proofs.lemmas.List.{get_or_append_left, get_or_push}
+use Rattle.std.proofs.lemmas.List.{get_or_append_left, get_or_push, map-append}
 use Rattle.std.proofs.lemmas.List.Elements.{All-nil, All-push}
 use Rattle.std.specs.List.{All}
 use Rattle.mlt_tree.specs.declared.entry.Entry.{Entry}
@@ -12,9 +12,11 @@ use Rattle.mlt_tree.specs.Edits.{frames_in}
 use Rattle.mlt_tree.specs.Ranges.{IsAttached}
 use Rattle.mlt_tree.specs.Tree.{Tree}
 use Rattle.mlt_tree.specs.Units.{list_unit, node_tree, tree_of, body_depth, depth_of, IsEntryBelow, IsBodyBelow, IsGraph}
-use Rattle.mlt_graph.specs.Graph.{HasLength, HasFewTracks, IsSized}
+use Rattle.mlt_graph.specs.Graph.{HasLength, HasFewTracks, IsBuilt, IsSized}
+use Rattle.mlt_graph.specs.Lists.{starts_in}
 use Rattle.mlt_graph.specs.Sizes.{nothing, size_of, entries_size, list_size}
 use Rattle.mlt_graph.specs.declared.size.Size.{Size}
+use Rattle.mlt_graph.specs.declared.weight.Weight.{Weight}
 use Rattle.mlt_graph.proofs.SizeLemmas.{len_in-frames, list_size-is}
 use Rattle.mlt_graph.proofs.Trees.{tree_of-append, tree_of-new, depth_of-append, depth_of-new}
 
@@ -73,6 +75,21 @@ module _ (us : List Node) (sizes : List Size) (body : Body) (size : Size) (sized
     lengths = λ k within. all_units (λ t d k. HasLength t) sized.lengths frames k (omega (arith, long));
     tracks = All-push (λ u. HasFewTracks u.body) us (unit_of body) sized.tracks tracks;
   }
+
+-- and so has what is kept beside the units
+pub built-push : (us : List Node) (sizes : List Size) (weights : List Weight) (starts : List (List (List ℕ))) (body : Body) (size : Size) (weight : Weight) (begins : List (List ℕ))
+    → IsBuilt us sizes weights starts → length us + 1 < 2 ^ 32 → IsBodyBelow (length us) body → HasFewTracks body → HasLength (node_tree (tree_of us) (unit_of body))
+    → size ≡ size_of (node_tree (tree_of us) (unit_of body)) (body_depth (depth_of us) body) → begins ≡ starts_in body
+    → IsBuilt (us ++ unit_of body ∷ []) (sizes ++ size ∷ []) (weights ++ weight ∷ []) (starts ++ begins ∷ [])
+built-push us sizes weights starts body size weight begins built more below tracks frames size_is begins_is = record {
+  sized = sized-push us sizes body size built.sized more below tracks frames size_is;
+  room = omega (arith, built.room, length-append weights (weight ∷ []), length-append us (unit_of body ∷ []));
+  lists = record {
+    are = ap (λ all. all ++ begins ∷ []) built.lists.are
+        ∙ ap (λ last. map (λ (node : Node). starts_in node.body) us ++ last ∷ []) begins_is
+        ∙ sym (map-append (λ (node : Node). starts_in node.body) us (unit_of body ∷ []));
+  };
+}
 
 -- the unit of a list has as many frames as its entries
 pub list_unit-length : (units : ℕ → Tree) (es : List Entry) → 1 ≤ frames_in es → frames_in es < 2 ^ 31 → HasLength (node_tree units (list_unit es))

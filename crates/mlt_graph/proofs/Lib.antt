@@ -1,5 +1,6 @@
 pub mod Added
 pub mod Bounds
+pub mod ListLemmas
 pub mod Sealing
 pub mod SizeLemmas
 pub mod Tractors

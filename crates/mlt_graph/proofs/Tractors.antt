@@ -1,6 +1,5 @@
 -- The unit of a level's tracks.
 use Rattle.std.proofs.Common.{◌≡◌, ℕ, ◌<◌, ◌≢◌, ◌^◌, List, [], ◌∷◌, ◌++◌, length, get_or, map, refl, sym, ap, ◌∙◌, subst, arith}
-use Rattle.std.proofs.lemmas.List.{map-append}
 use Rattle.std.proofs.lemmas.List.Elements.{All-map, All-nil, All-push, All-weaker, All-from_recursion, recursion_from_All}
 use Rattle.std.proofs.lemmas.List.Sums.{fold_push}
 use Rattle.std.specs.List.{All, AllByRecursion}
@@ -9,13 +8,14 @@ use Rattle.mlt_tree.specs.declared.node.Body.TheVariants.{Tractor}
 use Rattle.mlt_tree.specs.declared.node.Node.{Node}
 use Rattle.mlt_tree.specs.declared.node.Track.{Track as TrackOf}
 use Rattle.mlt_tree.specs.declared.tree.Plant.{Plant}
-use Rattle.mlt_tree.specs.Ranges.{IsAttached, IsPlant}
+use Rattle.mlt_tree.specs.Ranges.{IsAttached, IsPlant, frames}
 use Rattle.mlt_tree.specs.Tree.{Tree, len, longest}
 use Rattle.mlt_tree.specs.Units.{Level, drafts_of, track_of, attached_within, plant_within, level_frames, tractor_of, tracks_of, node_tree, tree_of, body_depth, depth_of, IsEntryBelow, AreEntriesBelow, IsTrackBelow, IsOnTracks, IsBodyBelow}
 use Rattle.mlt_tree.specs.Edits.{frames_in}
 use Rattle.mlt_playlist.specs.Playlist.{IsList}
 use Rattle.mlt_graph.specs.Drafts.{IsFinished, IsLevel, plain_track}
 use Rattle.mlt_graph.specs.Graph.{HasLength, IsSized}
+use Rattle.mlt_graph.specs.Lists.{starts_in}
 use Rattle.mlt_graph.specs.Sizes.{nothing, over_size, entries_size, drafts_size, size_of, tractor_size}
 use Rattle.mlt_graph.specs.declared.size.Size.{Size}
 use Rattle.mlt_graph.proofs.SizeLemmas.{len_in-frames, tractor_size-is}
@@ -52,10 +52,17 @@ no_filters level is =
     All-push (λ draft. draft.filters ≡ []) level.closed level.current (All-weaker IsFinished (λ draft. draft.filters ≡ []) (λ draft finished. finished.filters) level.closed is.closed) is.filters
 
 -- the tracks as they are made
-pub tracks-are : (level : Level) → IsLevel level → map plain_track level.closed ++ plain_track level.current ∷ [] ≡ map track_of (drafts_of level)
+pub tracks-are : (level : Level) → IsLevel level → map plain_track (drafts_of level) ≡ map track_of (drafts_of level)
 tracks-are level is =
-    sym (map-append plain_track level.closed (level.current ∷ []))
-    ∙ tracks-are_of (drafts_of level) (recursion_from_All (λ draft. draft.filters ≡ []) (drafts_of level) (no_filters level is))
+    tracks-are_of (drafts_of level) (recursion_from_All (λ draft. draft.filters ≡ []) (drafts_of level) (no_filters level is))
+
+-- and where their entries begin
+begins : (drafts : List Draft) → map (λ (draft : Draft). map frames draft.entries) drafts ≡ map (map frames) (map (λ (track : TrackOf). track.entries) (map track_of drafts))
+begins [] = refl
+begins (draft ∷ drafts) = ap (λ all. map frames draft.entries ∷ all) (begins drafts)
+
+pub starts-are : (level : Level) → map (λ (draft : Draft). map frames draft.entries) (drafts_of level) ≡ starts_in (tractor_of level).body
+starts-are level = begins (drafts_of level)
 
 -- the last one too has no filter
 pub all_finished : (level : Level) → IsLevel level → IsList level.current.entries → All IsFinished (drafts_of level)
@@ -71,7 +78,7 @@ plants-are : (level : Level) → IsLevel level → [] ≡ map (plant_within (lev
 plants-are level is = ap (map (plant_within (level_frames level))) (sym is.plants)
 
 -- the tractor as it is made
-pub body-is : (level : Level) (tracks : List TrackOf) (plants : List Plant) → IsLevel level → tracks ≡ map plain_track level.closed ++ plain_track level.current ∷ [] → plants ≡ []
+pub body-is : (level : Level) (tracks : List TrackOf) (plants : List Plant) → IsLevel level → tracks ≡ map plain_track (drafts_of level) → plants ≡ []
     → Tractor tracks plants ≡ (tractor_of level).body
 body-is level tracks plants is made none =
     ap (λ ts. Tractor ts plants) (made ∙ tracks-are level is) ∙ ap (Tractor (map track_of (drafts_of level))) (none ∙ plants-are level is)

@@ -1,4 +1,4 @@
--- The units of a graph, and what holds of them and of the table of their sizes.
+-- The units of a graph, and what holds of them and of what is kept beside them.
 use Rattle.std.specs.Prelude.{◌≡◌, ◌≤◌, ◌<◌, ◌^◌, ℕ, List, length, All}
 use Rattle.mlt_base.specs.declared.limits.TheConstants.{MOST_TRACKS}
 use Rattle.mlt_tree.specs.declared.node.Body.{Body}
@@ -7,6 +7,8 @@ use Rattle.mlt_tree.specs.declared.node.Node.{Node}
 use Rattle.mlt_tree.specs.Tree.{Tree, len}
 use Rattle.mlt_tree.specs.Units.{tree_of, depth_of, IsGraph}
 use Rattle.mlt_graph.specs.declared.size.Size.{Size}
+use Rattle.mlt_graph.specs.declared.weight.Weight.{Weight}
+use Rattle.mlt_graph.specs.Lists.{HaveStarts}
 use Rattle.mlt_graph.specs.Sizes.{AreSizes}
 
 -- a unit has a frame, and fewer than 2^31 of them
@@ -28,3 +30,10 @@ pub record IsSized (nodes : List Node) (sizes : List Size) : Type 0 where
   pub told : AreSizes sizes (tree_of nodes) (depth_of nodes)
   pub lengths : (unit : ℕ) → unit < length nodes → HasLength (tree_of nodes unit)
   pub tracks : All (λ node. HasFewTracks node.body) nodes
+
+-- units of a graph, with what is kept beside them: their sizes, room for their weights, and where the entries of
+-- their lists begin
+pub record IsBuilt (nodes : List Node) (sizes : List Size) (weights : List Weight) (starts : List (List (List ℕ))) : Type 0 where
+  pub sized : IsSized nodes sizes
+  pub room : length weights ≡ length nodes
+  pub lists : HaveStarts nodes starts

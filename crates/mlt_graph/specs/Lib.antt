@@ -1,6 +1,7 @@
 pub mod Drafts
 pub mod Graph
 pub mod LevelLends
+pub mod Lists
 pub mod Piece
 pub mod Seal
 pub mod Sealed

@@ -6,6 +6,7 @@ ghost use Rattle.mlt_tree.specs.Tree.{len};
 ghost use Rattle.mlt_tree.specs.Units.{source_unit, list_unit, node_tree, drafts_of, tractor_of, tree_of, body_depth, depth_of, IsEntryBelow, AreEntriesBelow, IsBodyBelow};
 ghost use Rattle.mlt_graph.specs.declared.fault.GraphFault.TheVariants.{NoProducer, Memory};
 ghost use Rattle.mlt_graph.specs.Graph.{HasLength, HasFewTracks};
+ghost use Rattle.mlt_graph.specs.Lists.{starts_in};
 ghost use Rattle.mlt_graph.specs.Seal.{seal};
 ghost use Rattle.mlt_graph.specs.Sizes.{size_of};
 
@@ -16,8 +17,9 @@ use crate::size::Size;
 use crate::weight::{Weight, weight_of};
 use mlt_base::limits::{MOST_DEPTH, MOST_WEIGHT};
 use mlt_base::{SourceNo, UnitId};
-use mlt_playlist::EntryList;
-use mlt_tree::{Body, FilterList, Node, SourceKind};
+use mlt_index::Starts;
+use mlt_playlist::{EntryList, starts_of};
+use mlt_tree::{Body, FilterList, ItemList, Node, SourceKind};
 use std::alloc::{AllocError, Global};
 use std::marker::Model;
 
@@ -32,18 +34,20 @@ pub struct Graph {
     sizes: Vec<Size>,
     // the weight of each unit, once they are sealed
     weights: Vec<Weight>,
+    // where the entries of each list of each unit begin
+    starts: Vec<ItemList<Starts>>,
 }
 
 impl Model for Graph {
-    ghost use Rattle.std.specs.Prelude.{◌≡◌, List, length};
+    ghost use Rattle.std.specs.Prelude.{List};
     ghost use Rattle.mlt_tree.specs.declared.node.Node.{Node};
-    ghost use Rattle.mlt_graph.specs.Graph.{IsSized};
+    ghost use Rattle.mlt_graph.specs.Graph.{IsBuilt};
 
     ghost Value = { List Node };
 
     ghost view = { λ g. g.nodes.items };
 
-    ghost invariant = { λ g. IsSized g.nodes.items g.sizes.items × (length g.weights.items ≡ length g.nodes.items) };
+    ghost invariant = { λ g. IsBuilt g.nodes.items g.sizes.items g.weights.items g.starts.items };
 }
 
 impl Graph {
@@ -55,6 +59,7 @@ impl Graph {
             nodes: Vec::new(alloc),
             sizes: Vec::new(alloc),
             weights: Vec::new(alloc),
+            starts: Vec::new(alloc),
         }
     }
 
@@ -88,7 +93,12 @@ impl Graph {
         ensures id { IfOk result (λ id. id.0 ≡ length self.old) }
         ensures err { OnErr result (self.new ≡ self.old) }
     {
-        self.add(Body::Source { no, kind, frames }, Size::plain(frames))
+        let starts = ItemList::new(*self.nodes.allocator());
+        self.add(
+            Body::Source { no, kind, frames },
+            Size::plain(frames),
+            starts,
+        )
     }
 
     /// Adds the unit of these entries, one after another. After want of memory the graph is as it was.
@@ -101,7 +111,9 @@ impl Graph {
         ensures err { OnErr result (self.new ≡ self.old) }
     {
         let size = Size::of_entries(&self.sizes, entries.as_slice()).list();
-        self.add(Body::Entries { entries }, size)
+        let alloc = *self.nodes.allocator();
+        let starts = only(alloc, starts_of(alloc, entries.as_slice())?)?;
+        self.add(Body::Entries { entries }, size, starts)
     }
 
     /// Adds the tractor of a level's tracks, which drops the level where it is refused. After a refusal
@@ -122,10 +134,10 @@ impl Graph {
             return Err(GraphFault::NoProducer);
         }
         let alloc = *self.nodes.allocator();
-        let Ok(body) = level.into_body(alloc) else {
+        let Ok((body, starts)) = level.into_body(alloc) else {
             return Err(GraphFault::Memory);
         };
-        match self.add(body, size.tractor(count)) {
+        match self.add(body, size.tractor(count), starts) {
             Ok(id) => Ok(id),
             Err(_) => Err(GraphFault::Memory),
         }
@@ -143,6 +155,7 @@ impl Graph {
             nodes,
             sizes,
             weights,
+            starts,
         } = self;
         let size = sizes[top.0 as usize];
         if size.depth > MOST_DEPTH {
@@ -152,15 +165,21 @@ impl Graph {
         if weight.weight > MOST_WEIGHT {
             return Err(GraphFault::TooMany { limit: MOST_WEIGHT });
         }
-        Ok(Sealed::new(nodes, top, size.length, size.need, weight.ops))
+        Ok(Sealed::new(nodes, starts, top, size.length, size.need, weight.ops))
     }
 
     /// Puts a unit with no filter behind the others.
-    fn add(&mut self, body: Body, size: Size) -> Result<UnitId, AllocError>
+    fn add(
+        &mut self,
+        body: Body,
+        size: Size,
+        starts: ItemList<Starts>,
+    ) -> Result<UnitId, AllocError>
         requires below { IsBodyBelow (length self.old) body }
         requires tracks { HasFewTracks body }
         requires frames { HasLength (node_tree (tree_of self.old) (record { body = body; filters = [] })) }
         requires size { size ≡ size_of (node_tree (tree_of self.old) (record { body = body; filters = [] })) (body_depth (depth_of self.old) body) }
+        requires starts { starts ≡ starts_in body }
         ensures ok { OnOk result (self.new ≡ self.old ++ record { body = body; filters = [] } ∷ []) }
         ensures id { IfOk result (λ id. id.0 ≡ length self.old) }
         ensures err { OnErr result (self.new ≡ self.old) }
@@ -173,9 +192,20 @@ impl Graph {
         // all of them grow, or none does
         self.sizes.reserve(1)?;
         self.weights.reserve(1)?;
+        self.starts.reserve(1)?;
         self.nodes.push(Node { body, filters })?;
         self.sizes.push(size)?;
         self.weights.push(Weight::none())?;
+        self.starts.push(starts)?;
         Ok(id)
     }
+}
+
+/// Where the entries of a list begin, as those of a unit that has no other list.
+fn only(alloc: Global, starts: Starts) -> Result<ItemList<Starts>, AllocError>
+    ensures { IfOk result (λ list. list ≡ starts ∷ []) }
+{
+    let mut list = Vec::with_capacity(alloc, 1)?;
+    list.push(starts)?;
+    Ok(ItemList::from_vec(list))
 }

@@ -5,12 +5,15 @@ ghost use Rattle.std.specs.Borrow.{sem};
 ghost use Rattle.mlt_base.specs.declared.limits.TheConstants.{MOST_TRACKS};
 ghost use Rattle.mlt_playlist.specs.Playlist.{IsList};
 ghost use Rattle.mlt_graph.specs.LevelLends.{LendsLast};
+ghost use Rattle.mlt_graph.specs.Lists.{starts_in};
 ghost use Rattle.mlt_graph.specs.Sizes.{drafts_size};
 ghost use Rattle.mlt_tree.specs.Units.{empty_level, drafts_of, tractor_of, AreEntriesBelow};
 
+use crate::closed::Closed;
 use crate::size::Size;
+use mlt_index::Starts;
 use mlt_playlist::Playlist;
-use mlt_tree::{Body, Draft, Entry, FilterList, Hide, ItemList, Pending, PendingPlant, Track};
+use mlt_tree::{Body, Hide, ItemList, Pending, PendingPlant};
 use std::alloc::{AllocError, Global};
 use std::marker::Model;
 
@@ -19,7 +22,7 @@ use std::marker::Model;
 #[derive(Drop)]
 pub struct Level {
     // the tracks below the last one, to which nothing is added any more
-    closed: Vec<Draft>,
+    closed: Vec<Closed>,
     // the last one, by its entries, filters and hide
     list: Playlist,
     filters: ItemList<Pending>,
@@ -77,26 +80,35 @@ impl Level {
         closed.under(Size::of_entries(table, self.list.as_slice()))
     }
 
-    /// The tractor.
-    pub(crate) fn into_body(self, alloc: Global) -> Result<Body, AllocError>
-        ensures { IfOk result (λ body. body ≡ (tractor_of self).body) }
+    /// The tractor, and where the entries of each of its tracks begin.
+    pub(crate) fn into_body(self, alloc: Global) -> Result<(Body, ItemList<Starts>), AllocError>
+        ensures body { IfOk result (λ made. made.0 ≡ (tractor_of self).body) }
+        ensures starts { IfOk result (λ made. made.1 ≡ starts_in (tractor_of self).body) }
     {
         let Level {
-            closed,
+            mut closed,
             list,
-            filters: _,
+            filters,
             hide,
             plants: _,
         } = self;
-        let mut tracks = Vec::with_capacity(alloc, closed.len() + 1)?;
+        closed.push(Closed {
+            list,
+            filters,
+            hide,
+        })?;
+        let mut tracks = Vec::with_capacity(alloc, closed.len())?;
+        let mut starts = Vec::with_capacity(alloc, closed.len())?;
         for draft in closed {
-            tracks.push(track(alloc, draft.entries, draft.hide))?;
+            let (track, begins) = draft.into_track(alloc);
+            tracks.push(track)?;
+            starts.push(begins)?;
         }
-        tracks.push(track(alloc, list.into_parts().0, hide))?;
-        Ok(Body::Tractor {
+        let body = Body::Tractor {
             tracks: ItemList::from_vec(tracks),
             plants: ItemList::new(alloc),
-        })
+        };
+        Ok((body, ItemList::from_vec(starts)))
     }
 
     /// The entries of the last track.
@@ -112,16 +124,5 @@ impl Level {
         ensures list { result.now ≡ self.old.current.entries }
     {
         &mut self.list
-    }
-}
-
-/// A track with no filter.
-fn track(alloc: Global, entries: ItemList<Entry>, hide: Hide) -> Track
-    ensures { result ≡ record { entries = entries; filters = []; hide = hide } }
-{
-    Track {
-        entries,
-        filters: FilterList::new(alloc),
-        hide,
     }
 }

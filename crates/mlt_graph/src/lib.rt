@@ -4,11 +4,13 @@
 //! tree, whose length and needs are known. A [`Show`] is that, with the size and rate of the frames and
 //! where they go.
 //!
-//! Below stand `mlt_tree`, whose `specs/Units` says which tree a unit stands for, and `mlt_playlist`,
-//! whose lists are the entries of units and tracks; above, whatever builds a composition or renders it.
+//! Below stand `mlt_tree`, whose `specs/Units` says which tree a unit stands for, `mlt_playlist`, whose
+//! lists are the entries of units and tracks, and `mlt_index`, for where these begin; above, whatever
+//! builds a composition or renders it.
 //! Start reading at [`Graph`].
 #![tactic(auto)]
 
+mod closed;
 pub mod fault;
 pub mod graph;
 pub mod level;

@@ -5,7 +5,8 @@ ghost use Rattle.mlt_tree.specs.Ranges.{IsEntry};
 ghost use Rattle.mlt_tree.specs.Units.{AreEntriesBelow, IsEntryBelow};
 ghost use Rattle.mlt_graph.specs.Sizes.{nothing, plain, part, entry_size, then_size, entries_size, over_size, drafts_size, list_size, tractor_size};
 
-use mlt_tree::{Draft, Entry};
+use crate::closed::Closed;
+use mlt_tree::Entry;
 
 /// What is known of a unit from when it is added, each number held to 2^32 - 1: its length in frames, the
 /// picture buffers that it takes to work a frame out, and how deep it is nested. Filters don't change these.
@@ -88,13 +89,13 @@ impl Size {
     }
 
     /// Tracks, over each other.
-    pub fn of_drafts(table: &[Size], drafts: &[Draft]) -> Size
+    pub fn of_drafts(table: &[Size], drafts: &[Closed]) -> Size
         requires { All (λ draft. AreEntriesBelow (length table.now) draft.entries) drafts.now }
         ensures { result ≡ drafts_size table.now drafts.now }
     {
         let mut size = Size::nothing();
         for draft in drafts {
-            size = size.under(Size::of_entries(table, draft.entries.as_slice()));
+            size = size.under(Size::of_entries(table, draft.entries()));
         }
         size
     }

@@ -1,6 +1,6 @@
 //! A graph as its caller sees it.
 
-ghost use Rattle.std.specs.Prelude.{◌≡◌, ◌≤◌, ◌<◌, ◌^◌, ℕ, length, All, IfOk};
+ghost use Rattle.std.specs.Prelude.{◌≡◌, ◌+◌, ◌≤◌, ◌<◌, ◌^◌, ℕ, length, All, IfOk};
 ghost use Rattle.mlt_base.specs.Span.{IsSpan};
 ghost use Rattle.mlt_tree.specs.Edits.{frames_in};
 ghost use Rattle.mlt_tree.specs.Ranges.{IsAttached};
@@ -128,6 +128,44 @@ fn seals_sixteen_deep_at_most(rt: HostRuntime) -> Result<(), Fail> {
         tell(rt.alloc(), 16)?.sealed,
         Err(GraphFault::TooDeep { depth: 17 })
     );
+    Ok(())
+}
+
+/// The first frames of a unit, with their colours inverted, and then a gap of three.
+fn clip_and_gap(alloc: Global, unit: UnitId, frames: u32) -> Result<EntryList, AllocError>
+    requires { 1 ≤ frames }
+    ensures below { IfOk result (λ list. (count : ℕ) → unit.0 < count → AreEntriesBelow count list) }
+    ensures frames { IfOk result (λ list. frames_in list ≡ frames + 3) }
+{
+    let mut list = clip_of(alloc, unit, frames)?;
+    match list.push(Entry::Gap { frames: 3 }) {
+        Ok(()) => Ok(list),
+        Err(_) => Err(AllocError),
+    }
+}
+
+/// What is found at a position of a clip of two frames and a gap of three.
+fn find_in_list(alloc: Global, at: u32) -> Result<Option<(usize, u32)>, AllocError> {
+    let mut graph = Graph::new(alloc);
+    let source = graph.add_source(SourceNo(0), SourceKind::Colour, 2)?;
+    let list = graph.add_list(clip_and_gap(alloc, source, 2)?)?;
+    match graph.seal(list) {
+        Ok(sealed) => Ok(sealed.find(list.0 as usize, 0, at)),
+        Err(_) => Err(AllocError),
+    }
+}
+
+#[test]
+fn finds_entries(rt: HostRuntime) -> Result<(), Fail> {
+    let rows = [
+        (0, Some((0, 0))),
+        (1, Some((0, 1))),
+        (4, Some((1, 2))),
+        (5, None),
+    ];
+    for (at, found) in rows {
+        assert_eq!(rt; find_in_list(rt.alloc(), at)?, found, "{at}");
+    }
     Ok(())
 }
 

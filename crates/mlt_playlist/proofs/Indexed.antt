@@ -20,7 +20,7 @@ map-replaced es at n new =
     ∙ ap (λ l. take at (map frames es) ++ (map frames new ++ l)) (sym (drop-map frames (at + n) es))
 
 -- each entry has a frame
-some-frames : (es : List Entry) → All IsEntry es → All (λ n. 1 ≤ n) (map frames es)
+pub some-frames : (es : List Entry) → All IsEntry es → All (λ n. 1 ≤ n) (map frames es)
 some-frames [] all = All-nil (λ n. 1 ≤ n)
 some-frames (e ∷ es) all =
     All-cons (λ n. 1 ≤ n) (frames e) (map frames es) (has_frame e (All-head IsEntry e es all)) (some-frames es (All-tail IsEntry e es all))

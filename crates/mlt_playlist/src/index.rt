@@ -3,7 +3,7 @@
 ghost use Rattle.std.specs.Prelude.{◌≡◌, ◌+◌, ◌≤◌, ◌<◌, ◌^◌, All, length, map, sum, IfOk};
 ghost use Rattle.mlt_index.specs.Starts as numbers;
 ghost use Rattle.mlt_tree.specs.Edits.{frames_in};
-ghost use Rattle.mlt_tree.specs.Ranges.{frames};
+ghost use Rattle.mlt_tree.specs.Ranges.{IsEntry, frames};
 
 use crate::cut::frames_of;
 use mlt_index::Starts;
@@ -34,4 +34,16 @@ pub(crate) fn frames_of_each(alloc: Global, entries: &[Entry]) -> Result<Vec<u32
         each.push(frames_of(entry) as u32)?;
     }
     Ok(each)
+}
+
+/// Where entries begin that stand one after another, each of at least one frame.
+pub fn starts_of(alloc: Global, entries: &[Entry]) -> Result<Starts, AllocError>
+    requires entries { All IsEntry entries.now }
+    requires short { frames_in entries.now < 2 ^ 31 }
+    ensures { IfOk result (λ starts. starts ≡ map frames entries.now) }
+{
+    let frames = frames_of_each(alloc, entries)?;
+    let mut starts = Starts::new(alloc);
+    starts.replace(0, 0, &frames)?;
+    Ok(starts)
 }

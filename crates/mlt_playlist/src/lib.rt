@@ -14,7 +14,7 @@ pub mod changed;
 pub(crate) mod cut;
 pub(crate) mod divide;
 pub mod gaps;
-pub(crate) mod index;
+pub mod index;
 pub mod joins;
 pub mod lookup;
 pub mod moved;
@@ -25,6 +25,7 @@ pub(crate) mod refused;
 pub mod regions;
 pub mod splice;
 
+pub use index::starts_of;
 pub use playlist::{EntryList, MixParts, Playlist};
 
 #[cfg(test)]

@@ -5,7 +5,7 @@ ghost use Rattle.mlt_tree.specs.Ranges.{IsAttached, IsEntry};
 use super::*;
 use Piece::{Clip, Gap};
 use mlt_base::PlayFault::{BadClip, BadRange, BadSplit, TooFew, TooLong, TooMany};
-use mlt_base::{Animation, PlayFault, Pos, Q16, Span, Try, UnitId};
+use mlt_base::{Animation, PlayFault, Pos, Q16, Span, Steps, Try, UnitId};
 use mlt_tree::{Attached, Entry, FilterList, FilterSpec, ItemList};
 use std::alloc::{AllocError, Global};
 use std::process::Abort;
@@ -359,7 +359,13 @@ fn each_question(rt: HostRuntime) -> Result<(), Fail> {
     assert_eq!(rt; list.clip_at(Pos(10)), None);
     assert!(rt; list.entry(3).is_none());
     assert!(rt; are(list.copy_range(1, 2)?.as_slice(), &[SECOND, THIRD]));
-    assert!(rt; are(list.into_parts().0.as_slice(), &P));
+    let (entries, kept) = list.into_parts();
+    assert!(rt; are(entries.as_slice(), &P));
+    let made = starts_of(rt.alloc(), entries.as_slice())?;
+    for at in [4, 5, 10] {
+        let found = made.find(Pos(at), &mut Steps::new());
+        assert_eq!(rt; found, kept.find(Pos(at), &mut Steps::new()), "{at}");
+    }
     Ok(())
 }
 

@@ -5,7 +5,7 @@ use Rattle.mlt_graph.specs.Sealed.{tree}
 use Rattle.mlt_graph.specs.Show.{meant, pix_of}
 use Rattle.mlt_base.specs.Picture.{plain}
 use Rattle.mlt_tree.specs.Show.{packed}
-use Rattle.melt_build.specs.Sources.{pixel}
+use Rattle.mlt_image.specs.View.{pixel}
 use Rattle.melt_run.specs.Pixels.{picture_bytes}
 use Rattle.melt_run.proofs.Drawn.{drawn}
 use Rattle.melt_run.proofs.Named.{needs_named}

@@ -11,7 +11,7 @@ add-requires-clause-frames c = list_unit-length (tree_of c.args.self.now) c.args
 pub add-requires-clause-size : goal.add-requires-clause-size
 add-requires-clause-size c =
     let sizes = c.self.inside.sizes.items in
-    let sized : IsSized c.args.self.now sizes = subst (λ ns. IsSized ns sizes) c.self.view_is c.self.invariant.0 in
+    let sized : IsSized c.args.self.now sizes = subst (λ ns. IsSized ns sizes) c.self.view_is c.self.invariant.sized in
     c.list-size.ensures
     ∙ ap list_size c.of_entries.ensures
     ∙ rw (c.deref.ensures.value, c.as_slice.ensures) (list_unit-size c.args.self.now sizes c.args.entries sized c.requires.below.below)

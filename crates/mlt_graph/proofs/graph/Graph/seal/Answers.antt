@@ -15,12 +15,12 @@ returns-then-size-gt-MOST_DEPTH c =
     let size = c.index-size.result.now in
     let there : top < length us = omega (arith, ap length c.self.view_is, c.requires) in
     subst (λ us. ◌≡◌ {A = Result Shown GraphFault} (Err (TooDeep size.depth)) (seal us top)) c.self.view_is
-    (too_deep us c.self.inside.sizes.items top size c.self.invariant.0 there c.index-size.ensures c.if-size-gt-MOST_DEPTH.true)
+    (too_deep us c.self.inside.sizes.items top size c.self.invariant.sized there c.index-size.ensures c.if-size-gt-MOST_DEPTH.true)
 
-pub new-requires : goal.new-requires
-new-requires c =
+pub new-requires-clause-kept : goal.new-requires-clause-kept
+new-requires-clause-kept c =
     let us = c.self.inside.nodes.items in
     let there : c.args.top.0 < length us = omega (arith, ap length c.self.view_is, c.requires) in
-    kept us c.self.inside.sizes.items c.args.top.0 c.index-size.result.now c.self.invariant.0 there c.index-size.ensures c.weight_of-weight.result
+    kept us c.self.inside.sizes.items c.args.top.0 c.index-size.result.now c.self.invariant.sized there c.index-size.ensures c.weight_of-weight.result
     (c.weight_of-weight.ensures ∙ ap (λ ns. weight_of (tree_of ns c.args.top.0)) c.deref.ensures.value)
     c.if-size-gt-MOST_DEPTH.false c.if-weight-gt-MOST_WEIGHT.false

@@ -1,21 +1,28 @@
-use Rattle.std.proofs.Common.{◌≡◌, ◌∷◌, [], ◌++◌, map, sym, ap, ◌∙◌, subst}
+use Rattle.std.proofs.Common.{◌≡◌, map, sym, ap, ◌∙◌, subst}
 use Rattle.std.proofs.lemmas.List.{map-id}
 use Rattle.std.proofs.lemmas.Iterator.Adapters.{YieldsList-from_vec}
 use Rattle.std.proofs.lemmas.Iterator.Consumers.{YieldsList-end}
-use Rattle.mlt_tree.specs.Units.{Level, tractor_of}
-use Rattle.mlt_tree.specs.declared.node.Body.TheVariants.{Tractor}
-use Rattle.mlt_graph.specs.Drafts.{plain_track}
-use Rattle.mlt_graph.proofs.Tractors.{body-is}
+use Rattle.mlt_tree.specs.declared.draft.Draft.{Draft}
+use Rattle.mlt_tree.specs.Ranges.{frames}
+use Rattle.mlt_tree.specs.Units.{drafts_of}
+use Rattle.mlt_graph.specs.Drafts.{IsLevel, plain_track}
+use Rattle.mlt_graph.proofs.Tractors.{body-is, starts-are}
 use Rattle.mlt_graph.proofs.level.Level.into_body.Goals as goal
+use Rattle.mlt_graph.proofs.level.Level.into_body.Goals.{After-drop-self-inside-2}
 
-pub returns : goal.returns
-returns c =
-    let l = c.self.inside in
-    let level : Level = record { closed = l.closed.items; current = record { entries = l.list; filters = l.filters; hide = l.hide }; plants = l.plants } in
+-- the loop went over all tracks of the level
+all-drafts : (c : After-drop-self-inside-2) → c.loop-draft.yielded ≡ drafts_of c.args.self
+all-drafts c =
     let gives = c.into_iter-draft-iterator.ensures.into_iter_gives in
-    let all = YieldsList-end (YieldsList-from_vec {s = c.into_iter-draft-iterator.result} l.closed.items gives.0 (gives.1 ∙ l.closed.ok.0)) c.loop-draft.yielded c.loop-draft.draft-iterator c.loop-draft.yielded_by c.next.result c.next.new.self c.in-None.is c.next.ensures.steps in
-    let closed : c.loop-draft.tracks.items ≡ map plain_track l.closed.items = c.loop-draft.invariant ∙ ap (map plain_track) (sym (map-id c.loop-draft.yielded) ∙ all.0) in
-    let last : c.track-2.result ≡ plain_track level.current = c.track-2.ensures ∙ ap (λ es. record { entries = es; filters = []; hide = l.hide }) c.into_parts.ensures.entries in
-    let tracks : c.from_vec.result ≡ map plain_track level.closed ++ plain_track level.current ∷ [] =
-    c.from_vec.ensures ∙ c.in_ok-push-2.ensures.items ∙ ap (λ ts. ts ++ c.track-2.result ∷ []) closed ∙ ap (λ t. map plain_track l.closed.items ++ t ∷ []) last in
-    subst (λ level. Tractor c.from_vec.result c.new.result ≡ (tractor_of level).body) c.self.view_is (body-is level c.from_vec.result c.new.result c.self.invariant tracks c.new.ensures)
+    let all = YieldsList-end (YieldsList-from_vec {s = c.into_iter-draft-iterator.result} c.push.new.self.items gives.0 (gives.1 ∙ c.push.new.self.ok.0)) c.loop-draft.yielded c.loop-draft.draft-iterator c.loop-draft.yielded_by c.next.result c.next.new.self c.in-None.is c.next.ensures.steps in
+    sym (map-id c.loop-draft.yielded) ∙ all.0 ∙ c.in_ok-push.ensures.items ∙ ap drafts_of c.self.view_is
+
+pub returns-clause-body : goal.returns-clause-body
+returns-clause-body c =
+    let level = c.args.self in
+    let tracks : c.from_vec.result ≡ map plain_track (drafts_of level) = c.from_vec.ensures ∙ c.loop-draft.invariant.tracks ∙ ap (map plain_track) (all-drafts c) in
+    body-is level c.from_vec.result c.new.result (subst IsLevel c.self.view_is c.self.invariant) tracks c.new.ensures
+
+pub returns-clause-starts : goal.returns-clause-starts
+returns-clause-starts c =
+    c.from_vec-2.ensures ∙ c.loop-draft.invariant.starts ∙ ap (map (λ (draft : Draft). map frames draft.entries)) (all-drafts c) ∙ starts-are c.args.self

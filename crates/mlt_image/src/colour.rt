@@ -1,11 +1,35 @@
-//! The colours that texts name.
+//! Colours, and the texts that name them.
 
 ghost use Rattle.std.specs.Prelude.{◌≡◌, ◌<◌, IfSome};
 ghost use Rattle.std.specs.Option.{option_map};
 ghost use Rattle.mlt_base.specs.Colour.{hex, hex_byte, rgba, rgb_or_argb, named, colour_of};
-ghost use Rattle.melt_build.specs.Sources.{pixel};
+ghost use Rattle.mlt_image.specs.View.{pixel};
 
-use crate::sources::Colour;
+/// A colour with straight alpha, each channel 0 to 255.
+#[derive(Clone, Copy, Debug, PartialEq, Eq)]
+pub struct Colour {
+    pub r: u8,
+    pub g: u8,
+    pub b: u8,
+    pub a: u8,
+}
+
+impl Colour {
+    /// The colour that a text names: `0xRRGGBBAA`, `#RRGGBB`, `#AARRGGBB`, black, white, red, green or
+    /// blue. Digits are in either case, and alpha is 255 where none is given. None for any other text.
+    pub fn read(text: &str) -> Option<Colour>
+        ensures { option_map pixel result ≡ colour_of text.now }
+    {
+        let bytes = text.as_bytes();
+        if bytes.starts_with(b"0x") {
+            rgba(&bytes[2..])
+        } else if bytes.starts_with(b"#") {
+            rgb_or_argb(&bytes[1..])
+        } else {
+            named(text)
+        }
+    }
+}
 
 /// The value of a hexadecimal digit, in either case.
 fn hex(c: u8) -> Option<u8>
@@ -85,19 +109,5 @@ fn named(text: &str) -> Option<Colour>
         "green" => Some(opaque(0, 255, 0)),
         "blue" => Some(opaque(0, 0, 255)),
         _ => None,
-    }
-}
-
-/// The colour that a text names.
-pub(crate) fn colour_of(text: &str) -> Option<Colour>
-    ensures { option_map pixel result ≡ colour_of text.now }
-{
-    let bytes = text.as_bytes();
-    if bytes.starts_with(b"0x") {
-        rgba(&bytes[2..])
-    } else if bytes.starts_with(b"#") {
-        rgb_or_argb(&bytes[1..])
-    } else {
-        named(text)
     }
 }

@@ -1,6 +1,6 @@
 use Rattle.std.proofs.Common.{◌≡◌, ◌+◌, ◌-◌, ◌≤◌, min, length, arith, ap, subst, ◌∙◌, length-append, length-drop, length-take}
-use Rattle.melt_run.proofs.Tiled.{IsTiled, length_more, tiled_more, tiled_whole, whole_more}
-use Rattle.melt_run.proofs.tile.tile.Goals as goal
+use Rattle.mlt_image.proofs.Tiled.{IsTiled, length_more, tiled_more, tiled_whole, whole_more}
+use Rattle.mlt_image.proofs.tile.tile.Goals as goal
 
 pub loop-filled-preserved : goal.loop-filled-preserved
 loop-filled-preserved c =

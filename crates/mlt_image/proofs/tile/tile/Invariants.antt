@@ -1,6 +1,6 @@
 use Rattle.std.proofs.Common.{◌≡◌, ◌≤◌, ◌<◌, ◌-◌, ◌%◌, length}
-use Rattle.melt_run.proofs.Tiled.{IsTiled}
-use Rattle.melt_run.proofs.tile.tile.Given as goal
+use Rattle.mlt_image.proofs.Tiled.{IsTiled}
+use Rattle.mlt_image.proofs.tile.tile.Given as goal
 
 -- whole pixels are filled, until all bytes are
 abbrev pub invariant-loop-filled : goal.invariant-loop-filled

@@ -1,0 +1,4 @@
+pub mod View
+pub mod Packed
+pub mod Kept
+pub mod Bordered
