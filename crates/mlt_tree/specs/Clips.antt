@@ -1,5 +1,5 @@
 -- Producers: what a word has made, and the clip of it at the track's end.
-use Rattle.std.specs.Prelude.{ℕ, ◌+◌, ◌-◌, ◌&&◌, nat_le, nat_lt, max, min, if◌then◌else◌, [], ◌∷◌, ◌++◌, length, Option, None, Some, unwrap_or, Result, Ok}
+use Rattle.std.specs.Prelude.{ℕ, ◌+◌, ◌-◌, ◌&&◌, nat_le, nat_lt, max, min, if◌then◌else◌, List, [], ◌∷◌, ◌++◌, length, Option, None, Some, unwrap_or, Result, Ok}
 use Rattle.mlt_base.specs.Colour.{Pixel, colour_of}
 use Rattle.mlt_base.specs.declared.limits.TheConstants as limit
 use Rattle.mlt_base.specs.Profile.{Measures}
@@ -16,7 +16,7 @@ use Rattle.mlt_tree.specs.Edits.{clip}
 use Rattle.mlt_tree.specs.Props.{number, moment, moment_or_first}
 use Rattle.mlt_tree.specs.Refusing.{refuse, or_refuse, at_group}
 use Rattle.mlt_tree.specs.Services.{Named, colour_name}
-use Rattle.mlt_tree.specs.Show.{Source, Plain, kind_of}
+use Rattle.mlt_tree.specs.Show.{Source, Plain, Drawn, kind_of}
 use Rattle.mlt_tree.specs.Units.{source_unit}
 
 -- the first and last frame of a cut
@@ -36,13 +36,15 @@ cut_of place length first out =
 -- what its value names
 pub data Origin : Type 0 where
   OfColour : Pixel → Origin
+  -- the file of a picture
+  OfPicture : (name : List ℕ) → Origin
 
 -- the value of a service
 abbrev pub origin_of : ℕ → Named → Result Origin Refusal
 origin_of place named = by named.producer where
   by : Producer → Result Origin Refusal
   by Colour = or_refuse place cause.BadValue (colour_of (colour_name named.arg)) >>= λ pixel. Ok (OfColour pixel)
-  by Picture = refuse place cause.Unsupported
+  by Picture = Ok (OfPicture named.arg)
   by Sound = refuse place cause.Unsupported
   by Melt = refuse place cause.Unsupported
 
@@ -70,6 +72,7 @@ pub record Product : Type 0 where
 -- the length of a source by itself
 abbrev pub own_length : Measures → Source → ℕ
 own_length profile (Plain pixel) = limit.OWN_LENGTH
+own_length profile (Drawn picture) = limit.OWN_LENGTH
 
 -- the length of a source: what is asked for, else its own, or as far as the clip goes where that is more
 abbrev pub length_by : ℕ → Option ℕ → Option ℕ → ℕ

@@ -4,8 +4,9 @@ use Rattle.mlt_tree.specs.declared.group.Group.{Group}
 use Rattle.mlt_tree.specs.declared.group.GroupKind.{GroupKind}
 use Rattle.mlt_tree.specs.declared.group.GroupKind.TheVariants as kind
 use Rattle.mlt_tree.specs.declared.refusal.Cause.TheVariants as cause
-use Rattle.mlt_tree.specs.Clips.{Origin, OfColour, Wanted, Product, origin_of, wanted_by, source_made, clip_added}
+use Rattle.mlt_tree.specs.Clips.{Origin, OfColour, OfPicture, Wanted, Product, origin_of, wanted_by, source_made, clip_added}
 use Rattle.mlt_tree.specs.Composition.{State, start, blank, join, remove, repeat, split, swap, consumer, inherit}
+use Rattle.mlt_tree.specs.Loaded.{picture_made}
 use Rattle.mlt_tree.specs.Loading.{Files, Read, done, plainly, through, ◌>>=◌}
 use Rattle.mlt_tree.specs.Refusing.{refuse, or_refuse}
 use Rattle.mlt_tree.specs.Sealing.{framed, seal}
@@ -15,6 +16,7 @@ use Rattle.mlt_tree.specs.Show.{Show, Plain}
 -- what a producer makes; only files are looked up
 abbrev pub product_of : Files → State → Group → Origin → Wanted → Read Product
 product_of files s g (OfColour pixel) asked = done (source_made s.profile s.made (Plain pixel) asked)
+product_of files s g (OfPicture name) asked = picture_made files s.profile s.made g.place name asked
 
 -- a producer: the service, its value, the range, what it makes, and the clip of that
 unfoldable pub producer : Files → State → Group → Read State
