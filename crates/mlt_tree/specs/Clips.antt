@@ -15,7 +15,7 @@ use Rattle.mlt_tree.specs.Edits as edit
 use Rattle.mlt_tree.specs.Edits.{clip}
 use Rattle.mlt_tree.specs.Props.{number, moment, moment_or_first}
 use Rattle.mlt_tree.specs.Refusing.{refuse, or_refuse, at_group}
-use Rattle.mlt_tree.specs.Services.{Named, colour_name}
+use Rattle.mlt_tree.specs.Services.{Named, producer_of, colour_name}
 use Rattle.mlt_tree.specs.Show.{Source, Plain, Drawn, kind_of}
 use Rattle.mlt_tree.specs.Units.{source_unit}
 
@@ -60,6 +60,14 @@ wanted_by s g = do
   last ← moment row.OUT s.profile (props_of s g)
   length ← number row.LENGTH (props_of s g)
   Ok (record { first = first; last = last; length = length })
+
+-- the service, its value, and the range
+unfoldable pub asked_for : State → Group → Result (Origin × Wanted) Refusal
+asked_for s g = do
+  named ← or_refuse g.place cause.UnknownService (producer_of g.arg)
+  from ← origin_of g.place named
+  asked ← wanted_by s g
+  Ok (from, asked)
 
 -- ---- what it makes
 
