@@ -147,8 +147,8 @@ impl Made {
     ) -> Result<Product, BuildFault>
         requires { IsMade self.old }
         ensures goes { (files : Files) (s : StateOf) (group : GroupOf) → s.made ≡ made_view self.old → s.profile ≡ measures_of profile.now → group.place ≡ place →
-            Tells files (composing.product_of files s group (origin_view origin) (wanted_view asked)) (H.state host.old) →
-            Goes (product_view self.new) result (composing.product_of files s group (origin_view origin) (wanted_view asked)) (H.state host.old) (H.state host.new) }
+            Tells files (composing.product_of files s group (origin_view origin.entry) (wanted_view asked)) (H.state host.old) →
+            Goes (product_view self.new) result (composing.product_of files s group (origin_view origin.entry) (wanted_view asked)) (H.state host.old) (H.state host.new) }
         ensures made { OnOk result (IsMade self.new) }
         ensures more { length self.old.graph ≤ length self.new.graph }
         ensures there { IfOk result (λ product. product.unit.0 < length self.new.graph) }
