@@ -1,7 +1,7 @@
 -- What a composition as far as it is read means.
 use Rattle.std.specs.Prelude.{ℕ, ◌≡◌, ◌<◌, ◌≤◌, List, [], length, get_or, All}
 use Rattle.std.specs.Option.{option_map}
-use Rattle.mlt_base.specs.declared.limits.TheConstants.{MOST_LOADED}
+use Rattle.mlt_tree.specs.declared.limits.TheConstants.{MOST_LOADED}
 use Rattle.mlt_base.specs.ProfileView.{measures_of}
 use Rattle.mlt_tree.specs.declared.draft.Draft.{Draft}
 use Rattle.mlt_tree.specs.declared.entry.Entry.{Entry}

@@ -14,10 +14,10 @@ ghost use Rattle.melt_build.specs.State.{IsMade, made_view};
 use crate::fault::BuildFault;
 use crate::state::Made;
 use crate::wanted::{Product, Wanted};
-use mlt_base::limits::{MOST_LOADED, MOST_OF_FILE};
 use mlt_base::{Profile, Still, Try};
 use mlt_host::{Host, LoadFault};
 use mlt_source::Source;
+use mlt_tree::limits::{MOST_LOADED, MOST_OF_FILE};
 use mlt_tree::{Cause, Refusal};
 use std::alloc::Global;
 

@@ -25,12 +25,6 @@ pub const MOST_WRITTEN: u32 = 1_000_000;
 /// Bytes that a run holds.
 pub const MOST_BYTES: u64 = 2_147_483_648;
 
-/// Bytes of one file that is loaded.
-pub const MOST_OF_FILE: u64 = 268_435_456;
-
-/// Bytes of all files that a run loads.
-pub const MOST_LOADED: u64 = 1_073_741_824;
-
 /// Pixels of a width or a height.
 pub const MOST_PIXELS: u32 = 4096;
 

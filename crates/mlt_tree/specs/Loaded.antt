@@ -1,7 +1,7 @@
 -- What is made of a file that a word names, and how long such a file may be.
 use Rattle.std.specs.Prelude.{ℕ, ◌+◌, ◌-◌, min, nat_le, if◌then◌else◌, List, length, Result, Ok, Err}
 use Rattle.mlt_base.specs.declared.fault.PpmFault.{PpmFault}
-use Rattle.mlt_base.specs.declared.limits.TheConstants as limit
+use Rattle.mlt_tree.specs.declared.limits.TheConstants as limit
 use Rattle.mlt_base.specs.Ppm.{ppm}
 use Rattle.mlt_base.specs.Profile.{Measures}
 use Rattle.mlt_base.specs.Still.{Picture}
