@@ -5,7 +5,7 @@ use Rattle.mlt_tree.specs.declared.refusal.Refusal.{Refusal}
 use Rattle.mlt_base.specs.Steps.{◌>>=◌}
 use Rattle.mlt_tree.specs.Refusing.{over}
 
-next_is : {X : Type 0} (xs : List X) (i : ℕ) (x : X) → i < length xs → x ≡ get_or xs i x → drop i xs ≡ x ∷ drop (i + 1) xs
+pub next_is : {X : Type 0} (xs : List X) (i : ℕ) (x : X) → i < length xs → x ≡ get_or xs i x → drop i xs ≡ x ∷ drop (i + 1) xs
 next_is xs i x below here = rw (drop-cons xs i x, ← here, add-one) refl
 
 -- one element more

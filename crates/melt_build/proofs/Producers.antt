@@ -1,70 +1,63 @@
 -- A producer's steps, one behind the other, as the code takes them.
-use Rattle.std.proofs.Common.{◌≡◌, Option, None, Some, Result, Ok, Err, refl, ap, sym, ◌∙◌, subst}
+use Rattle.std.proofs.Common.{ℕ, ◌≡◌, List, Result, Ok, Err, refl, ap, sym, ◌∙◌, subst}
+use Rattle.mlt_base.specs.Try as tried
 use Rattle.mlt_base.specs.Try.{TryGives}
 use Rattle.mlt_base.specs.declared.refusal.Try.{Try}
-use Rattle.mlt_base.specs.declared.refusal.Try.TheVariants.{Fault, Memory}
+use Rattle.mlt_host.specs.Host.{HostState}
 use Rattle.mlt_tree.specs.declared.group.Group.{Group}
-use Rattle.mlt_tree.specs.declared.refusal.Cause.TheVariants as cause
 use Rattle.mlt_tree.specs.declared.refusal.Refusal.{Refusal}
-use Rattle.mlt_tree.specs.Clips.{Origin, Wanted, Product, origin_of, wanted_by, clip_added}
+use Rattle.mlt_tree.specs.Clips.{Origin, Wanted, Product, asked_for, clip_added}
 use Rattle.mlt_tree.specs.Composing.{product_of, producer}
 use Rattle.mlt_tree.specs.Composition.{State, Made}
-use Rattle.mlt_tree.specs.Loading.{Files, Read, Refused, done, stopped, plainly, ◌>>=◌}
-use Rattle.mlt_tree.specs.Refusing.{or_refuse, refusal_at}
-use Rattle.mlt_tree.specs.Services.{Named, producer_of}
-use Rattle.melt_build.specs.Reads.{ReadGives}
-use Rattle.melt_build.proofs.Looked.{plain_gives}
+use Rattle.mlt_tree.specs.Loading.{Files, Read, plainly, ◌>>=◌}
+use Rattle.melt_build.specs.declared.fault.BuildFault.{BuildFault}
+use Rattle.melt_build.specs.declared.fault.BuildFault.TheVariants.{Refused}
+use Rattle.melt_build.specs.Failing.{fault_of}
+use Rattle.melt_build.specs.Loads.{names_of, Asks, Tells, Fails, Goes}
+use Rattle.melt_build.proofs.Going.{asks_none, goes_then, fails_first, plain_fails, plain_goes, tells_first, tells_second}
 
 module _ (files : Files) (s : State) (g : Group) where
-  -- what is left once the range is known, once the value is, and once the service is
-  abbrev asked_rest : Origin → Wanted → Read State
-  asked_rest from asked = product_of files s g from asked >>= λ made. plainly (clip_added s g made asked)
+  abbrev asked_step : Read (Origin × Wanted)
+  asked_step = plainly (asked_for s g)
 
-  abbrev from_rest : Origin → Read State
-  from_rest from = plainly (wanted_by s g) >>= asked_rest from
+  abbrev made_step : Origin × Wanted → Read State
+  made_step asked = product_of files s g asked.0 asked.1 >>= λ made. plainly (clip_added s g made asked.1)
 
-  abbrev named_rest : Named → Read State
-  named_rest named = plainly (origin_of g.place named) >>= from_rest
-
-  by_name : (o : Option Named) → producer_of g.arg ≡ o → producer files s g ≡ (plainly (or_refuse g.place cause.UnknownService o) >>= named_rest)
+  whole_is : producer files s g ≡ (asked_step >>= made_step)
   unfolding producer
-  by_name o h = ap (λ o. plainly (or_refuse g.place cause.UnknownService o) >>= named_rest) h
+  whole_is = refl
 
-  -- a service that isn't there
-  pub unknown : producer_of g.arg ≡ None → producer files s g ≡ stopped (Refused (refusal_at g.place cause.UnknownService))
-  unknown h = by_name None h
+  -- a word that asks for nothing that there is
+  pub asked_fails : (refusal : Refusal) (a : HostState) → asked_for s g ≡ Err refusal → Fails (Refused refusal) (producer files s g) a a
+  asked_fails refusal a h =
+      subst (λ step. Fails (Refused refusal) step a a) (sym whole_is) (fails_first (Refused refusal) asked_step made_step a a (subst (λ r. Fails (Refused refusal) (plainly r) a a) (sym h) (refl, asks_none a a refl)))
 
-  module _ (named : Named) (is : producer_of g.arg ≡ Some named) where
-    pub bad_value : (refusal : Refusal) → origin_of g.place named ≡ Err refusal → producer files s g ≡ stopped (Refused refusal)
-    bad_value refusal h = by_name (Some named) is ∙ ap (λ r. plainly r >>= from_rest) h
+  module _ (origin : Origin) (asked : Wanted) (is : asked_for s g ≡ Ok (origin, asked)) where
+    abbrev product_step : Read Product
+    product_step = product_of files s g origin asked
 
-    module _ (from : Origin) (value : origin_of g.place named ≡ Ok from) where
-      by_value : producer files s g ≡ from_rest from
-      by_value = by_name (Some named) is ∙ ap (λ r. plainly r >>= from_rest) value
+    abbrev clip_step : Product → Read State
+    clip_step made = plainly (clip_added s g made asked)
 
-      pub bad_range : (refusal : Refusal) → wanted_by s g ≡ Err refusal → producer files s g ≡ stopped (Refused refusal)
-      bad_range refusal h = by_value ∙ ap (λ r. plainly r >>= asked_rest from) h
+    rest_is : producer files s g ≡ (product_step >>= clip_step)
+    rest_is = whole_is ∙ ap (λ r. plainly r >>= made_step) is
 
-      module _ (asked : Wanted) (range : wanted_by s g ≡ Ok asked) where
-        by_range : producer files s g ≡ asked_rest from asked
-        by_range = by_value ∙ ap (λ r. plainly r >>= asked_rest from) range
+    pub tells_product : (host : HostState) → Tells files (producer files s g) host → Tells files product_step host
+    tells_product host tells = tells_first files product_step clip_step host (subst (λ step. Tells files step host) rest_is tells)
 
-        pub not_made : (refusal : Refusal) → product_of files s g from asked ≡ stopped (Refused refusal) → producer files s g ≡ stopped (Refused refusal)
-        not_made refusal h = by_range ∙ ap (λ r. r >>= λ made. plainly (clip_added s g made asked)) h
+    pub product_fails : (fault : BuildFault) (a b : HostState) → Fails fault product_step a b → Fails fault (producer files s g) a b
+    product_fails fault a b fails = subst (λ step. Fails fault step a b) (sym rest_is) (fails_first fault product_step clip_step a b fails)
 
-        pub made : (product : Product) → product_of files s g from asked ≡ done product → producer files s g ≡ plainly (clip_added s g product asked)
-        made product h = by_range ∙ ap (λ r. r >>= λ made. plainly (clip_added s g made asked)) h
+    module _ (product : Product) (a b : HostState) (did : (product_step.end ≡ Ok product) × Asks (names_of product_step.loads) a b) where
+      -- what was made is there already where the clip is added
+      clip_there : (m : Made) → clip_added (record s { made = m }) g product asked ≡ clip_added s g product asked
+      unfolding clip_added
+      clip_there m = refl
 
-        -- what was made is there already where the clip is added
-        clip_there : (m : Made) (product : Product) → clip_added (record s { made = m }) g product asked ≡ clip_added s g product asked
-        unfolding clip_added
-        clip_there m product = refl
+      pub clip_goes : {X : Type 0} (view : X → State) (x : X) (m : Made) → clip_added (record s { made = m }) g product asked ≡ Ok (view x) → Goes view (Ok x) (producer files s g) a b
+      clip_goes view x m h =
+          subst (λ step. Goes view (Ok x) step a b) (sym rest_is) (goes_then view (Ok x) product_step clip_step product a b b did (subst (λ r. Goes view (Ok x) (plainly r) b b) (sym (sym (clip_there m) ∙ h)) (refl, asks_none b b refl)))
 
-        pub made_gives : {X : Type 0} (view : X → State) (result : Result X (Try Refusal)) (m : Made) (product : Product) → product_of files s g from asked ≡ done product
-            → TryGives view result (clip_added (record s { made = m }) g product asked) → ReadGives view result (producer files s g)
-        made_gives view result m product h gives =
-            subst (ReadGives view result) (sym (made product h)) (plain_gives view result (clip_added s g product asked) (subst (TryGives view result) (clip_there m product) gives))
-
-        pub not_made_gives : {X Y : Type 0} (view : X → State) (makes : Y → Product) (refusal : Try Refusal) → ReadGives makes (Err refusal) (product_of files s g from asked) → ReadGives view (Err refusal) (producer files s g)
-        not_made_gives view makes (Fault refusal) h = not_made refusal h
-        not_made_gives view makes Memory h = tt
+      pub clip_fails : (refused : Try Refusal) (m : Made) → tried.Fails refused (clip_added (record s { made = m }) g product asked) → Fails (fault_of refused) (producer files s g) a b
+      clip_fails refused m fails =
+          subst (λ step. Fails (fault_of refused) step a b) (sym rest_is) (goes_then {X = Product} {Y = State} {Z = State} (λ x. x) (Err (fault_of refused)) product_step clip_step product a b b did (plain_fails refused (clip_added s g product asked) b b refl (subst (tried.Fails refused) (clip_there m) fails)))

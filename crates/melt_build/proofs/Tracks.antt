@@ -94,6 +94,7 @@ joined_composed s units at n unit new joined composed is number done =
     let old : All (IsKnown (length graph)) joined = joined_part (IsKnown (length graph)) at n unit s.level.current.entries new joined composed.level.current.entries done in
     record {
       made = record {
+        few = composed.made.few;
         fits = subst (FitsUnits s.made.table) (sym is) (fits_more s.made.table graph (list_unit joined) tt composed.made.fits);
         plain = subst (All IsPlainNode) (sym is) (All-push IsPlainNode graph (list_unit joined) composed.made.plain (list_plain (length graph) joined old));
       };

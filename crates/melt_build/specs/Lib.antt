@@ -1,13 +1,13 @@
-pub mod Builds
 pub mod Built
 pub mod Clips
 pub mod Edited
+pub mod Failing
 pub mod Given
 pub mod Loaded
+pub mod Loads
 pub mod Object
 pub mod Reads
 pub mod Service
-pub mod Sources
 pub mod State
 pub mod Track
 pub mod WordCount

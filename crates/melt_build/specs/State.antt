@@ -1,6 +1,7 @@
 -- What a composition as far as it is read means.
-use Rattle.std.specs.Prelude.{ℕ, ◌≡◌, ◌<◌, List, [], length, get_or, All}
+use Rattle.std.specs.Prelude.{ℕ, ◌≡◌, ◌<◌, ◌≤◌, List, [], length, get_or, All}
 use Rattle.std.specs.Option.{option_map}
+use Rattle.mlt_tree.specs.declared.limits.TheConstants.{MOST_LOADED}
 use Rattle.mlt_base.specs.ProfileView.{measures_of}
 use Rattle.mlt_tree.specs.declared.draft.Draft.{Draft}
 use Rattle.mlt_tree.specs.declared.entry.Entry.{Entry}
@@ -69,8 +70,9 @@ pub record IsKnownLevel (count : ℕ) (level : Level) : Type 0 where
   pub current : IsKnownDraft count level.current
   pub plants : level.plants ≡ []
 
--- units and sources that fit each other, with no filter
+-- units and sources that fit each other, with no filter, and not too many bytes loaded
 pub record IsMade (made : Made) : Type 0 where
+  pub few : made.loaded ≤ MOST_LOADED
   pub fits : FitsUnits made.table made.graph
   pub plain : All IsPlainNode made.graph
 

@@ -2,7 +2,7 @@
 
 ghost use Rattle.std.specs.Prelude.{◌≡◌, find};
 ghost use Rattle.std.specs.Option.{option_copied};
-ghost use Rattle.mlt_tree.specs.Unbuilt.{is_later_prop, is_colour, producer_built, props_built, built, built_step};
+ghost use Rattle.mlt_tree.specs.Unbuilt.{is_later_prop, is_picture, producer_built, props_built, built, built_step};
 ghost use Rattle.mlt_tree.specs.Services.{producer_of, raw_of};
 ghost use Rattle.mlt_tree.specs.Refusing.{over};
 
@@ -29,26 +29,26 @@ fn later_prop(props: &[Prop]) -> Option<&Prop>
     None
 }
 
-/// Whether a word names a colour, or nothing that is known.
-fn is_colour(word: &str) -> bool
-    ensures { result ≡ is_colour (producer_of word.now) }
+/// Whether a word names a picture, or nothing that is known.
+fn is_picture(word: &str) -> bool
+    ensures { result ≡ is_picture (producer_of word.now) }
 {
     match producer_of(word) {
         None => true,
         Some(named) => match named.producer {
             Producer::Colour => true,
-            Producer::Picture => false,
+            Producer::Picture => true,
             Producer::Sound => false,
             Producer::Melt => false,
         },
     }
 }
 
-/// A producer of a colour.
+/// A producer of a picture.
 fn producer_built(group: &Group) -> Result<(), Refusal>
     ensures { result ≡ producer_built group.now }
 {
-    if is_colour(group.arg.as_str()) {
+    if is_picture(group.arg.as_str()) {
         Ok(())
     } else {
         Err(Refusal::at(group.place, Cause::Unsupported))

@@ -1,33 +1,33 @@
 //! Producers: what a word asks for, what it makes, and the clip of that at the track's end.
 
-ghost use Rattle.std.specs.Prelude.{◌≡◌, ◌≤◌, ◌<◌, ◌+◌, ◌-◌, ◌^◌, length, IfOk, IfSome, OnOk};
-ghost use Rattle.mlt_base.specs.Profile.{Measures};
+ghost use Rattle.std.specs.Prelude.{◌≡◌, ◌≤◌, ◌<◌, ◌+◌, ◌-◌, ◌^◌, ◌++◌, [], ◌∷◌, length, IfOk, IfSome, OnOk};
 ghost use Rattle.mlt_base.specs.ProfileView.{measures_of};
 ghost use Rattle.mlt_base.specs.Try.{Gives, TryGives};
 ghost use Rattle.mlt_tree.specs.Clips as meaning;
-ghost use Rattle.mlt_tree.specs.Clips.{OfColour};
 ghost use Rattle.mlt_tree.specs.Composing as composing;
 ghost use Rattle.mlt_tree.specs.Composition.{State as StateOf, props_of};
 ghost use Rattle.mlt_tree.specs.Loading.{Files};
 ghost use Rattle.mlt_tree.specs.declared.group.Group.{Group as GroupOf};
-ghost use Rattle.melt_build.specs.Clips.{origin_view, wanted_view, product_view};
+ghost use Rattle.mlt_host.specs.Host.{OnlyLoads};
+ghost use Rattle.mlt_source.specs.Sources.{source_of};
+ghost use Rattle.melt_build.specs.Clips.{origin_view, wanted_view, asked_view, product_view};
 ghost use Rattle.melt_build.specs.Given.{props_in};
-ghost use Rattle.melt_build.specs.Reads.{ReadGives};
+ghost use Rattle.melt_build.specs.Loads.{Tells, Goes, CountsLoads};
 ghost use Rattle.melt_build.specs.Service.{named_view};
-ghost use Rattle.mlt_image.specs.View.{pixel};
-ghost use Rattle.melt_build.specs.Sources.{source_of};
 ghost use Rattle.melt_build.specs.State.{IsComposed, IsMade, made_view, state_view, cut_view};
 
+use crate::fault::BuildFault;
 use crate::object::Object;
 use crate::props::Given;
 use crate::refused::edited;
 use crate::service::{Named, colour_name, producer_of};
 use crate::state::{Made, State};
 use crate::wanted::{Cut, Origin, Product, Wanted};
-use mlt_base::limits::OWN_LENGTH;
-use mlt_base::{Pos, Profile, Span, Try};
+use mlt_base::{Pos, Profile, SourceNo, Span, Try};
+use mlt_host::Host;
 use mlt_image::Colour;
-use mlt_tree::{Cause, Entry, FilterList, Group, Producer, Refusal, SourceKind, services as row};
+use mlt_source::{Source, SourceTable};
+use mlt_tree::{Cause, Entry, FilterList, Group, Producer, Refusal, services as row};
 use std::alloc::{AllocError, Global};
 
 /// From the first frame to the last, which is the source's where none is given.
@@ -52,7 +52,7 @@ pub(crate) fn cut_of(place: u32, length: u32, first: u32, out: Option<u32>) -> R
 }
 
 /// The value of a service.
-fn origin_of(place: u32, named: Named<'_>) -> Result<Origin, Refusal>
+fn origin_of<'a>(place: u32, named: Named<'a>) -> Result<Origin<'a>, Refusal>
     ensures { Gives origin_view result (meaning.origin_of place (named_view named.entry)) }
 {
     match named.producer {
@@ -60,18 +60,9 @@ fn origin_of(place: u32, named: Named<'_>) -> Result<Origin, Refusal>
             Some(colour) => Ok(Origin::Colour(colour)),
             None => Err(Refusal::at(place, Cause::BadValue)),
         },
-        Producer::Picture => Err(Refusal::at(place, Cause::Unsupported)),
+        Producer::Picture => Ok(Origin::Picture(named.arg)),
         Producer::Sound => Err(Refusal::at(place, Cause::Unsupported)),
         Producer::Melt => Err(Refusal::at(place, Cause::Unsupported)),
-    }
-}
-
-/// The colour that is named.
-fn colour_in(origin: Origin) -> Colour
-    ensures { origin_view origin ≡ OfColour (pixel result) }
-{
-    match origin {
-        Origin::Colour(colour) => colour,
     }
 }
 
@@ -110,38 +101,90 @@ impl Given<'_, '_> {
     }
 }
 
+/// Adds a source to the table, and answers its number, the next one.
+fn add(table: &mut SourceTable, source: Source) -> Result<SourceNo, AllocError>
+    ensures added { OnOk result (table.new ≡ table.old ++ source_of source ∷ []) }
+    ensures number { IfOk result (λ no. no.0 ≡ length table.old) }
+{
+    match source {
+        Source::Colour(colour) => table.add_colour(colour),
+        Source::Still(still) => table.add_still(still),
+    }
+}
+
 impl Made {
-    /// A source of a colour and its unit, which have the next numbers.
-    fn source_made(&mut self, colour: Colour, asked: Wanted) -> Result<Product, AllocError>
+    /// A source and its unit, which have the next numbers.
+    pub(crate) fn source_made(
+        &mut self,
+        profile: &Profile,
+        source: Source,
+        asked: Wanted,
+    ) -> Result<Product, AllocError>
         requires { IsMade self.old }
-        ensures value { (profile : Measures) → IfOk result (λ product. product_view self.new product ≡
-            meaning.source_made profile (made_view self.old) (source_of colour) (wanted_view asked)) }
+        ensures value { IfOk result (λ product. product_view self.new product ≡
+            meaning.source_made (measures_of profile.now) (made_view self.old) (source_of source) (wanted_view asked)) }
         ensures made { OnOk result (IsMade self.new) }
         ensures more { length self.old.graph ≤ length self.new.graph }
         ensures there { IfOk result (λ product. product.unit.0 < length self.new.graph) }
         ensures frames { IfOk result (λ product. (1 ≤ product.frames) × (product.frames < 2 ^ 31)) }
     {
-        let frames = length_by(OWN_LENGTH, asked.last, asked.length);
-        let source = self.table.add_colour(colour)?;
-        let unit = self.graph.add_source(source, SourceKind::Colour, frames)?;
+        let kind = source.kind();
+        let frames = length_by(source.length(profile), asked.last, asked.length);
+        let no = add(&mut self.table, source)?;
+        let unit = self.graph.add_source(no, kind, frames)?;
         Ok(Product { unit, frames })
     }
 
-    /// What a producer makes.
-    fn product_of(&mut self, origin: Origin, asked: Wanted) -> Result<Product, Try<Refusal>>
+    /// What a producer makes, for the word at a place.
+    fn product_of<H: Host>(
+        &mut self,
+        alloc: Global,
+        profile: &Profile,
+        place: u32,
+        origin: Origin<'_>,
+        asked: Wanted,
+        host: &mut H,
+    ) -> Result<Product, BuildFault>
         requires { IsMade self.old }
-        ensures value { (files : Files) (s : StateOf) (group : GroupOf) → s.made ≡ made_view self.old →
-            ReadGives (product_view self.new) result (composing.product_of files s group (origin_view origin) (wanted_view asked)) }
+        ensures goes { (files : Files) (s : StateOf) (group : GroupOf) → s.made ≡ made_view self.old → s.profile ≡ measures_of profile.now → group.place ≡ place →
+            Tells files (composing.product_of files s group (origin_view origin.entry) (wanted_view asked)) (H.state host.old) →
+            Goes (product_view self.new) result (composing.product_of files s group (origin_view origin.entry) (wanted_view asked)) (H.state host.old) (H.state host.new) }
         ensures made { OnOk result (IsMade self.new) }
         ensures more { length self.old.graph ≤ length self.new.graph }
         ensures there { IfOk result (λ product. product.unit.0 < length self.new.graph) }
         ensures frames { IfOk result (λ product. (1 ≤ product.frames) × (product.frames < 2 ^ 31)) }
+        ensures counts { CountsLoads result (H.state host.old) (H.state host.new) }
+        ensures rest { OnlyLoads (H.state host.old) (H.state host.new) }
     {
-        Ok(self.source_made(colour_in(origin), asked)?)
+        match origin {
+            Origin::Colour(colour) => Ok(self.source_made(profile, Source::Colour(colour), asked)?),
+            Origin::Picture(name) => self.picture_made(alloc, profile, place, name, asked, host),
+        }
     }
 }
 
 impl State<'_> {
+    /// What a producer's word asks for: its value and the frames.
+    #[tactic(auto, unfolding(mlt_tree::specs::Clips::asked_for))]
+    fn asked_for<'g>(
+        &self,
+        group: &'g Group,
+        own: &Object<'_>,
+    ) -> Result<(Origin<'g>, Wanted), Refusal>
+        requires { own.now.words.now ≡ group.now.props }
+        ensures { Gives asked_view result (meaning.asked_for (state_view self.now) group.now) }
+    {
+        let Some(named) = producer_of(group.arg.as_str()) else {
+            return Err(Refusal::at(group.place, Cause::UnknownService));
+        };
+        let origin = origin_of(group.place, named)?;
+        let given = Given {
+            inherited: &self.inherited,
+            own,
+        };
+        Ok((origin, given.wanted_by(&self.profile)?))
+    }
+
     /// The clip of what was made, at the track's end.
     #[tactic(auto, unfolding(mlt_tree::specs::Clips::clip_added))]
     fn clip_added(
@@ -171,28 +214,26 @@ impl State<'_> {
         edited(group.place, self.level.last().append(entry))
     }
 
-    /// A producer: what its value names, the range, what it makes, and the clip of that.
-    pub(crate) fn producer(
+    /// A producer: what its word asks for, what it makes of that, and the clip of it.
+    pub(crate) fn producer<H: Host>(
         &mut self,
         alloc: Global,
         group: &Group,
         own: &Object<'_>,
-    ) -> Result<(), Try<Refusal>>
+        host: &mut H,
+    ) -> Result<(), BuildFault>
         requires composed { IsComposed self.old }
         requires own { own.now.words.now ≡ group.now.props }
-        ensures value { (files : Files) → ReadGives (λ _. state_view self.new) result (composing.producer files (state_view self.old) group.now) }
+        ensures goes { (files : Files) → Tells files (composing.producer files (state_view self.old) group.now) (H.state host.old) →
+            Goes (λ _. state_view self.new) result (composing.producer files (state_view self.old) group.now) (H.state host.old) (H.state host.new) }
         ensures composed { OnOk result (IsComposed self.new) }
+        ensures counts { CountsLoads result (H.state host.old) (H.state host.new) }
+        ensures rest { OnlyLoads (H.state host.old) (H.state host.new) }
     {
-        let Some(named) = producer_of(group.arg.as_str()) else {
-            return Err(Try::Fault(Refusal::at(group.place, Cause::UnknownService)));
-        };
-        let origin = origin_of(group.place, named)?;
-        let given = Given {
-            inherited: &self.inherited,
-            own,
-        };
-        let asked = given.wanted_by(&self.profile)?;
-        let product = self.made.product_of(origin, asked)?;
-        self.clip_added(alloc, group, product, asked)
+        let (origin, asked) = self.asked_for(group, own)?;
+        let product = self
+            .made
+            .product_of(alloc, &self.profile, group.place, origin, asked, host)?;
+        Ok(self.clip_added(alloc, group, product, asked)?)
     }
 }

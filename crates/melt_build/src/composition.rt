@@ -1,6 +1,6 @@
 //! From groups to a composition: what is not built first, then the profile, then the groups in word order.
 
-ghost use Rattle.std.specs.Prelude.{◌≡◌, IfOk, OnOk, None};
+ghost use Rattle.std.specs.Prelude.{◌≡◌, ◌≢◌, IfOk, OnOk, None};
 ghost use Rattle.std.specs.Option.{option_map};
 ghost use Rattle.mlt_base.specs.Try.{Gives, TryGives};
 ghost use Rattle.mlt_tree.specs.Composing.{producer as producer_of, effect as effect_of, composed as composed_of};
@@ -9,16 +9,22 @@ ghost use Rattle.mlt_tree.specs.Loading.{Files, through};
 ghost use Rattle.mlt_tree.specs.Refusing.{over};
 ghost use Rattle.mlt_tree.specs.Sealing.{framed as framed_of};
 ghost use Rattle.mlt_base.specs.ProfileView.{measures_of};
+ghost use Rattle.mlt_host.specs.Host.{OnlyLoads};
+ghost use Rattle.mlt_tree.specs.declared.group.GroupKind.TheVariants as kind;
+ghost use Rattle.melt_build.specs.Failing.{lifted as lifted_of};
+ghost use Rattle.melt_build.specs.Loads.{Tells, Goes, CountsLoads};
 ghost use Rattle.melt_build.specs.Reads.{ReadGives};
 ghost use Rattle.melt_build.specs.State.{IsComposed, state_view};
 
 use crate::built::all_built;
+use crate::fault::BuildFault;
 use crate::object::Object;
 use crate::props::Given;
-use crate::sources::SourceTable;
 use crate::state::{Made, State};
 use mlt_base::{DV_PAL, Profile, Rate, Try};
 use mlt_graph::{Graph, Level};
+use mlt_host::Host;
+use mlt_source::SourceTable;
 use mlt_tree::{Cause, Group, GroupKind, Refusal};
 use std::alloc::{AllocError, Global};
 use std::mem;
@@ -83,13 +89,21 @@ fn framed(groups: &[Group]) -> Result<Profile, Refusal>
 
 impl<'a> State<'a> {
     /// A producer, with the properties that it inherits and its own.
-    fn produce(&mut self, alloc: Global, group: &'a Group) -> Result<(), Try<Refusal>>
+    fn produce<H: Host>(
+        &mut self,
+        alloc: Global,
+        group: &'a Group,
+        host: &mut H,
+    ) -> Result<(), BuildFault>
         requires { IsComposed self.old }
-        ensures value { (files : Files) → ReadGives (λ _. state_view self.new) result (producer_of files (state_view self.old) group.now) }
+        ensures goes { (files : Files) → Tells files (producer_of files (state_view self.old) group.now) (H.state host.old) →
+            Goes (λ _. state_view self.new) result (producer_of files (state_view self.old) group.now) (H.state host.old) (H.state host.new) }
         ensures composed { OnOk result (IsComposed self.new) }
+        ensures counts { CountsLoads result (H.state host.old) (H.state host.new) }
+        ensures rest { OnlyLoads (H.state host.old) (H.state host.new) }
     {
         let own = Object::read(alloc, group.props.as_slice())?;
-        let done = self.producer(alloc, group, &own);
+        let done = self.producer(alloc, group, &own, host);
         own.end();
         done
     }
@@ -124,15 +138,16 @@ impl<'a> State<'a> {
         Ok(())
     }
 
-    /// What the group does to the composition.
+    /// What a group does to the composition that is no producer.
     #[tactic(auto, unfolding(mlt_tree::specs::Composing::effect))]
-    fn effect(&mut self, alloc: Global, group: &'a Group) -> Result<(), Try<Refusal>>
-        requires { IsComposed self.old }
+    fn change(&mut self, alloc: Global, group: &'a Group) -> Result<(), Try<Refusal>>
+        requires composed { IsComposed self.old }
+        requires other { group.now.kind ≢ kind.Producer }
         ensures value { (files : Files) → ReadGives (λ _. state_view self.new) result (effect_of files (state_view self.old) group.now) }
         ensures composed { OnOk result (IsComposed self.new) }
     {
         match group.kind {
-            GroupKind::Producer => self.produce(alloc, group),
+            GroupKind::Producer => unreachable!(),
             GroupKind::Blank => self.blank(group),
             GroupKind::Group => self.inherit(alloc, group),
             GroupKind::Join => self.join(group),
@@ -174,16 +189,55 @@ impl<'a> State<'a> {
         }
     }
 
-    /// What the groups do to the composition, in order.
-    fn effects(&mut self, alloc: Global, groups: &'a [Group]) -> Result<(), Try<Refusal>>
+    /// What the group does to the composition.
+    fn effect<H: Host>(
+        &mut self,
+        alloc: Global,
+        group: &'a Group,
+        host: &mut H,
+    ) -> Result<(), BuildFault>
         requires { IsComposed self.old }
-        ensures value { (files : Files) → ReadGives (λ _. state_view self.new) result (through (effect_of files) (state_view self.old) groups.now) }
+        ensures goes { (files : Files) → Tells files (effect_of files (state_view self.old) group.now) (H.state host.old) →
+            Goes (λ _. state_view self.new) result (effect_of files (state_view self.old) group.now) (H.state host.old) (H.state host.new) }
         ensures composed { OnOk result (IsComposed self.new) }
+        ensures counts { CountsLoads result (H.state host.old) (H.state host.new) }
+        ensures rest { OnlyLoads (H.state host.old) (H.state host.new) }
+    {
+        if group.kind == GroupKind::Producer {
+            self.produce(alloc, group, host)
+        } else {
+            lifted(self.change(alloc, group))
+        }
+    }
+
+    /// What the groups do to the composition, in order.
+    fn effects<H: Host>(
+        &mut self,
+        alloc: Global,
+        groups: &'a [Group],
+        host: &mut H,
+    ) -> Result<(), BuildFault>
+        requires { IsComposed self.old }
+        ensures goes { (files : Files) → Tells files (through (effect_of files) (state_view self.old) groups.now) (H.state host.old) →
+            Goes (λ _. state_view self.new) result (through (effect_of files) (state_view self.old) groups.now) (H.state host.old) (H.state host.new) }
+        ensures composed { OnOk result (IsComposed self.new) }
+        ensures counts { CountsLoads result (H.state host.old) (H.state host.new) }
+        ensures rest { OnlyLoads (H.state host.old) (H.state host.new) }
     {
         for group in groups {
-            self.effect(alloc, group)?;
+            self.effect(alloc, group, host)?;
         }
         Ok(())
+    }
+}
+
+/// The answer of a step that looks up no file.
+fn lifted<T>(done: Result<T, Try<Refusal>>) -> Result<T, BuildFault>
+    ensures { result ≡ lifted_of done }
+{
+    match done {
+        Ok(answer) => Ok(answer),
+        Err(refused) => Err(BuildFault::from(refused)),
     }
 }
 
@@ -210,21 +264,25 @@ fn start<'a>(alloc: Global, profile: Profile, count: u32) -> Result<State<'a>, A
 }
 
 /// The composition of the groups of so many words.
-pub(crate) fn composed<'a>(
+pub(crate) fn composed<'a, H: Host>(
     alloc: Global,
     count: u32,
     groups: &'a [Group],
-) -> Result<State<'a>, Try<Refusal>>
-    ensures value { (files : Files) → ReadGives state_view result (composed_of files count groups.now) }
+    host: &mut H,
+) -> Result<State<'a>, BuildFault>
+    ensures goes { (files : Files) → Tells files (composed_of files count groups.now) (H.state host.old) →
+        Goes state_view result (composed_of files count groups.now) (H.state host.old) (H.state host.new) }
     ensures composed { IfOk result IsComposed }
+    ensures counts { CountsLoads result (H.state host.old) (H.state host.new) }
+    ensures rest { OnlyLoads (H.state host.old) (H.state host.new) }
 {
     let profile = framed(groups)?;
     let mut state = start(alloc, profile, count)?;
-    match state.effects(alloc, groups) {
+    match state.effects(alloc, groups, host) {
         Ok(()) => Ok(state),
-        Err(refusal) => {
+        Err(fault) => {
             state.end();
-            Err(refusal)
+            Err(fault)
         }
     }
 }

@@ -3,7 +3,7 @@
 //! [`build`] gives exactly the show of `mlt_tree`'s `specs/Sealing`, or its refusal with the place. Each
 //! step is one small function with the name of its definition: `built` refuses what is not built yet,
 //! `composition` takes the profile and then the groups in word order, `state`, `track`, `wanted` and `clips` do
-//! one group, and `seal` tests the whole at the end. `object` keeps the properties of a group by name, and `props`
+//! one group, `files` loads what a word names, and `seal` tests the whole at the end. `object` keeps the properties of a group by name, and `props`
 //! reads their values.
 //!
 //! Below stand `mlt_graph`, which the composition grows in, and `melt_words`, whose groups it reads; above,
@@ -14,19 +14,20 @@ mod built;
 mod clips;
 mod composition;
 mod consumer;
+pub mod fault;
+mod files;
 mod object;
 mod props;
 mod refused;
 mod seal;
 mod service;
 pub mod show;
-pub mod sources;
 mod state;
 mod track;
 mod wanted;
 
-pub use show::{BuildFault, build};
-pub use sources::SourceTable;
+pub use fault::BuildFault;
+pub use show::build;
 
 #[cfg(test)]
 mod tests;

@@ -18,12 +18,12 @@ ghost use Rattle.melt_build.specs.State.{IsComposed, consumer_view, cut_view, st
 
 use crate::clips::cut_of;
 use crate::consumer::Consumer;
-use crate::sources::SourceTable;
 use crate::state::{Made, State};
 use crate::wanted::Cut;
 use mlt_base::limits::{MOST_BYTES, MOST_WRITTEN};
 use mlt_base::{Pos, Profile, Text, Try};
 use mlt_graph::{Format, Graph, GraphFault, Level, Output, Pix, Sealed, Show};
+use mlt_source::SourceTable;
 use mlt_tree::{Cause, Refusal, services as row};
 use std::alloc::{AllocError, Global};
 

@@ -11,27 +11,17 @@ ghost use Rattle.mlt_tree.specs.Table.{is_kind, row_of};
 ghost use Rattle.mlt_tree.specs.Unbuilt.{IsPlayed};
 ghost use Rattle.mlt_graph.specs.Sealed.{tree};
 ghost use Rattle.mlt_graph.specs.Show.{meant};
-ghost use Rattle.melt_build.specs.Builds.{Builds};
-ghost use Rattle.melt_build.specs.Reads.{ReadGives};
+ghost use Rattle.melt_build.specs.Loads.{Tells, Goes, CountsLoads};
 ghost use Rattle.melt_build.specs.WordCount.{behind_group, has_argument as has_argument_of};
 
 use crate::composition::composed;
+use crate::fault::BuildFault;
 use crate::seal::seal;
-use crate::sources::SourceTable;
-use mlt_base::Try;
 use mlt_graph::Show;
 use mlt_host::Host;
-use mlt_tree::{Group, GroupKind, GroupList, OPTIONS, Refusal, Row};
+use mlt_source::SourceTable;
+use mlt_tree::{Group, GroupKind, GroupList, OPTIONS, Row};
 use std::alloc::Global;
-
-/// Why groups make no show.
-#[derive(Clone, Copy, Debug, PartialEq, Eq)]
-pub enum BuildFault {
-    /// The groups are refused.
-    Refused(Refusal),
-    /// Memory was wanting.
-    Memory,
-}
 
 /// Whether an option is of this kind.
 fn is_of_kind(row: &Row, kind: GroupKind) -> bool
@@ -103,38 +93,44 @@ fn word_count(groups: &[Group]) -> u32
 }
 
 /// The show of the groups of so many words.
-#[tactic(auto, unfolding(mlt_tree::specs::Composing::show_of))]
-fn show_of(alloc: Global, count: u32, groups: &[Group]) -> Result<(Show, SourceTable), Try<Refusal>>
-    ensures show { (files : Files) → ReadGives (λ made. meant made.0 made.1) result (show_of files count groups.now) }
+fn show_of<H: Host>(
+    alloc: Global,
+    count: u32,
+    groups: &[Group],
+    host: &mut H,
+) -> Result<(Show, SourceTable), BuildFault>
+    ensures goes { (files : Files) → Tells files (show_of files count groups.now) (H.state host.old) →
+        Goes (λ made. meant made.0 made.1) result (show_of files count groups.now) (H.state host.old) (H.state host.new) }
     ensures fits { IfOk result (λ made. Fits made.1 (tree made.0.sealed)) }
     ensures played { IfOk result (λ made. IsPlayed (meant made.0 made.1)) }
+    ensures counts { CountsLoads result (H.state host.old) (H.state host.new) }
+    ensures rest { OnlyLoads (H.state host.old) (H.state host.new) }
 {
-    seal(alloc, count, composed(alloc, count, groups)?)
+    let state = composed(alloc, count, groups, host)?;
+    Ok(seal(alloc, count, state)?)
 }
 
-/// Makes the show that groups mean, and the table of its sources; it loads the files that they name, of
-/// which no group that is built names one.
+/// Makes the show that groups mean, and the table of its sources, and loads the files that they name, in word
+/// order, each time a word names one.
 ///
 /// The groups are those of words that are to be played. `Refused` is the first refusal of what is not built,
 /// of the profile, of the groups in word order, and of the whole; its place is a word's, or the number of
-/// words. `Memory` is want of memory. Nothing is created or appended.
+/// words. `SourceFault` names the word whose file can't be read, where the host's count of loads rose;
+/// `Memory` is want of memory. Nothing is created or appended. What it gives is said of a host that tells its
+/// files, and of every host where no file is named.
 pub fn build<H: Host>(
     alloc: Global,
     groups: &GroupList,
     host: &mut H,
 ) -> Result<(Show, SourceTable), BuildFault>
     requires { All IsAllowed groups.now }
-    ensures show { (files : Files) → Builds (λ made. meant made.0 made.1) result (show_of files (words_in groups.now) groups.now) }
+    ensures goes { (files : Files) → Tells files (show_of files (words_in groups.now) groups.now) (H.state host.old) →
+        Goes (λ made. meant made.0 made.1) result (show_of files (words_in groups.now) groups.now) (H.state host.old) (H.state host.new) }
     ensures fits { IfOk result (λ made. Fits made.1 (tree made.0.sealed)) }
     ensures played { IfOk result (λ made. IsPlayed (meant made.0 made.1)) }
-    ensures asked { (H.state host.new).asked ≡ (H.state host.old).asked }
-    ensures loads { (H.state host.new).load_faults ≡ (H.state host.old).load_faults }
+    ensures counts { CountsLoads result (H.state host.old) (H.state host.new) }
     ensures rest { OnlyLoads (H.state host.old) (H.state host.new) }
 {
     let list = groups.as_slice();
-    match show_of(alloc, word_count(list), list) {
-        Ok(made) => Ok(made),
-        Err(Try::Fault(refusal)) => Err(BuildFault::Refused(refusal)),
-        Err(Try::Memory) => Err(BuildFault::Memory),
-    }
+    show_of(alloc, word_count(list), list, host)
 }

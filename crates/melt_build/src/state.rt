@@ -11,9 +11,9 @@ use crate::consumer::Consumer;
 use crate::object::Object;
 use crate::props::Given;
 use crate::service::raw_of;
-use crate::sources::SourceTable;
 use mlt_base::{Profile, UnitId};
 use mlt_graph::{Graph, Level, Pix};
+use mlt_source::SourceTable;
 use mlt_tree::{Cause, Group, Refusal, services as row};
 
 /// What the words of a file share with those around them: the units, the sources, how many bytes were loaded

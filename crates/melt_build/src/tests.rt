@@ -5,10 +5,11 @@ ghost use Rattle.mlt_tree.specs.GroupWords.{IsAllowed};
 
 use super::*;
 use melt_words::groups;
-use mlt_base::SourceNo;
+use mlt_base::{PpmFault, SourceNo};
 use mlt_graph::{Format, Pix};
 use mlt_host::CalmHost;
 use mlt_image::Colour;
+use mlt_source::Source;
 use mlt_tree::{Cause, GroupList};
 use std::alloc::Global;
 use std::test::Fail;
@@ -44,14 +45,17 @@ fn builds_clips_gaps_and_a_join(rt: HostRuntime) -> Result<(), Fail> {
                 (show.output.channels, show.output.format),
                 (2, Format::S16)
             );
-            assert_eq!(rt; table.colour(SourceNo(2)), None);
+            assert!(rt; table.source(SourceNo(2)).is_none());
             let blue = Colour {
                 r: 0,
                 g: 0,
                 b: 255,
                 a: 255,
             };
-            assert_eq!(rt; table.colour(SourceNo(1)), Some(blue));
+            match table.source(SourceNo(1)) {
+                Some(Source::Colour(colour)) => assert_eq!(rt; *colour, blue),
+                _ => return Err(Fail::new("no second colour")),
+            }
         }
         Err(_) => return Err(Fail::new("not built")),
     }
@@ -159,6 +163,75 @@ fn refuses_each_property_past_its_ends(rt: HostRuntime) -> Result<(), Fail> {
             Ok(_) => return Err(Fail::new("built")),
             Err(fault) => assert_eq!(rt; fault, wanted, "{words}"),
         }
+    }
+    Ok(())
+}
+
+/// A host with a picture, a file that ends too soon, and a file that is none.
+fn host_with_files(alloc: Global) -> Result<CalmHost, Fail> {
+    let mut host = CalmHost::new(alloc);
+    host.add_file("p.ppm", b"P6 1 1 255\nabc")?;
+    host.add_file("short.ppm", b"P6 1 1 255\nab")?;
+    host.add_file("no", b"P")?;
+    Ok(host)
+}
+
+#[test]
+fn loads_a_file_for_each_word_that_names_it(rt: HostRuntime) -> Result<(), Fail> {
+    let alloc = rt.alloc();
+    let list = read(alloc, "-profile 1x1@25/1 p.ppm out=0 ppm:p.ppm")?;
+    let mut host = host_with_files(alloc)?;
+    match build(alloc, &list, &mut host) {
+        Ok((_, table)) => {
+            assert!(rt; table.source(SourceNo(1)).is_some());
+            assert!(rt; table.source(SourceNo(2)).is_none());
+        }
+        Err(_) => return Err(Fail::new("not built")),
+    }
+    Ok(())
+}
+
+#[test]
+fn refuses_files_that_are_no_picture(rt: HostRuntime) -> Result<(), Fail> {
+    let alloc = rt.alloc();
+    // The words behind the profile and a colour, and why the word at place 3 is refused.
+    let rows: [(&str, Cause); 3] = [
+        ("short.ppm", Cause::BadPicture(PpmFault::Short(2, 3))),
+        ("ppm:no", Cause::BadPicture(PpmFault::NotP6)),
+        (
+            "p.ppm in=1 out=0",
+            Cause::BadRange {
+                first: 1,
+                last: 0,
+                length: 15000,
+            },
+        ),
+    ];
+    for (words, cause) in rows {
+        let line = format!(in alloc; "-profile 1x1@25/1 colour:red {words}")?;
+        let list = read(alloc, line.as_str())?;
+        let mut host = host_with_files(alloc)?;
+        let wanted = BuildFault::Refused(mlt_tree::Refusal {
+            word: 3,
+            inner: None,
+            cause,
+        });
+        match build(alloc, &list, &mut host) {
+            Ok(_) => return Err(Fail::new("built")),
+            Err(fault) => assert_eq!(rt; fault, wanted, "{words}"),
+        }
+    }
+    Ok(())
+}
+
+#[test]
+fn names_the_word_whose_file_is_missing(rt: HostRuntime) -> Result<(), Fail> {
+    let alloc = rt.alloc();
+    let list = read(alloc, "-profile 1x1@25/1 colour:red missing.ppm -join 5")?;
+    let mut host = CalmHost::new(alloc);
+    match build(alloc, &list, &mut host) {
+        Ok(_) => return Err(Fail::new("built")),
+        Err(fault) => assert_eq!(rt; fault, BuildFault::SourceFault(3)),
     }
     Ok(())
 }

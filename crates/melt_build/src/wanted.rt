@@ -15,8 +15,10 @@ pub(crate) struct Cut {
 
 /// What a producer's value names.
 #[derive(Clone, Copy)]
-pub(crate) enum Origin {
+pub(crate) enum Origin<'a> {
     Colour(Colour),
+    /// The name of a picture's file.
+    Picture(&'a str),
 }
 
 /// The frames that a producer's properties ask for, and how long its source is to be.

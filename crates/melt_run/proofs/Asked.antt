@@ -1,87 +1,154 @@
--- The names of the files that words look up.
-use Rattle.std.proofs.Common.{ℕ, ◌≡◌, ◌++◌, List, [], ◌∷◌, length, take, Option, None, Some, IfSome, IsSomeAnd, sym, ap, subst}
+-- What is prepared of a step of reading, and the files that were asked for on the way.
+use Rattle.std.proofs.Common.{ℕ, ◌≡◌, ◌++◌, List, [], ◌∷◌, length, take, Option, None, Some, Result, Ok, Err, IfSome, IsSomeAnd, refl, sym, ap, ◌∙◌, subst, inl, inr}
 use Rattle.std.proofs.Math.Seq.{take-length}
 use Rattle.std.proofs.lemmas.List.{append-nil}
 use Rattle.mlt_host.specs.Host.{HostState}
-use Rattle.mlt_tree.specs.Loading.{Files, no_files, Load, Read}
-use Rattle.mlt_tree.specs.Reading.{Reading, Job, words_read, reading_on, loads}
+use Rattle.mlt_tree.specs.declared.refusal.Refusal.{Refusal}
+use Rattle.mlt_tree.specs.Loading as read
+use Rattle.mlt_tree.specs.Loading.{Files, no_files, Load, Read, ◌>>=◌}
+use Rattle.mlt_tree.specs.Reading as meaning
+use Rattle.mlt_tree.specs.Reading.{Reading, Job, words_read, reading_on, loads, show_read}
+use Rattle.mlt_tree.specs.Show as shown
+use Rattle.mlt_tree.specs.Show.{Source}
+use Rattle.mlt_graph.specs.Show.{meant}
+use Rattle.mlt_graph.specs.declared.show.Show.{Show}
+use Rattle.melt_build.specs.declared.fault.BuildFault.{BuildFault}
+use Rattle.melt_build.specs.declared.fault.BuildFault.TheVariants as build
+use Rattle.melt_build.specs.Loads.{Asks, StopsAt, AsksSome, Tells, Fails, names_of}
 use Rattle.melt_run.specs.declared.prepared.Prepared.{Prepared}
-use Rattle.melt_run.specs.declared.prepared.Prepared.TheVariants.{Play, Text, Refused, Memory}
+use Rattle.melt_run.specs.declared.prepared.Prepared.TheVariants.{Play, Text, Refused, SourceFault, Memory}
 use Rattle.melt_run.specs.declared.status.Status.{Status}
 use Rattle.melt_run.specs.declared.status.Status.TheVariants as status
 use Rattle.melt_run.specs.Outcome.{AsksFor}
-use Rattle.melt_run.specs.Prepared.{Asks, AsksWhilePreparing, Means, Reads, names_of, names_on}
+use Rattle.melt_run.specs.Prepared.{AsksWhilePreparing, GoesPrepared, Means, Reads, loads_on}
+use Rattle.melt_run.specs.Status.{IfSourceFault}
 
--- ---- what is read without a file
+-- ---- a step that looks up no file
 
-pub means : (prepared : Prepared) (read : Read Job) → Reads prepared read → Means prepared read.end
-means (Play show table) read h = ap (λ (r : Read Job). r.end) h
-means (Text job) read h = ap (λ (r : Read Job). r.end) h
-means (Refused refusal) read h = ap (λ (r : Read Job). r.end) h
-means Memory read h = tt
-
-pub means_on : (prepared : Prepared) (words : List (List ℕ)) (files : Option Files) → ((files : Files) → Reads prepared (words_read words files)) → IfSome (reading_on words files) (Means prepared)
-means_on prepared words (Some files) h = means prepared (words_read words files) (h files)
-means_on prepared words None h = by (loads words no_files) where
-  without : List Load → Option Reading
-  without [] = Some (words_read words no_files).end
-  without (load ∷ more) = None
-
-  by : (ls : List Load) → IfSome (without ls) (Means prepared)
-  by [] = means prepared (words_read words no_files) (h no_files)
-  by (load ∷ more) = tt
-
--- ---- which names were asked for
-
-pub asks_none : (old new : HostState) → new.asked ≡ old.asked → Asks [] old new
-asks_none old new same = subst (λ asked. IfSome asked (λ after. IsSomeAnd old.asked (λ before. after ≡ before ++ []))) (sym same) (go old.asked) where
+asks_none : (a : HostState) → Asks [] a a
+asks_none a = go a.asked where
   go : (asked : Option (List (List ℕ))) → IfSome asked (λ after. IsSomeAnd asked (λ before. after ≡ before ++ []))
   go None = tt
   go (Some names) = sym (append-nil names)
 
-no_names : (old new : HostState) (read : Read Job) → read.loads ≡ [] → new.asked ≡ old.asked → Asks (names_of read.loads) old new
-no_names old new read none same = subst (λ ls. Asks (names_of ls) old new) (sym none) (asks_none old new same)
+pub reads_goes : (prepared : Prepared) (step : Read Job) (a : HostState) → Reads prepared step → GoesPrepared prepared step a a
+reads_goes (Play show table) step a h =
+    subst (λ step. GoesPrepared (Play show table) step a a) (sym h) (record { means = refl; asked = asks_none a })
+reads_goes (Text job) step a h =
+    subst (λ step. GoesPrepared (Text job) step a a) (sym h) (record { means = refl; asked = asks_none a })
+reads_goes (Refused refusal) step a h =
+    subst (λ step. GoesPrepared (Refused refusal) step a a) (sym h) (record { means = refl; asked = asks_none a })
+reads_goes (SourceFault place) step a h = absurd h
+reads_goes Memory step a h = record { means = tt; asked = (0, asks_none a) }
 
-asked : (prepared : Prepared) (read : Read Job) (old new : HostState) → Reads prepared read → new.asked ≡ old.asked → AsksWhilePreparing prepared (names_of read.loads) old new
-asked (Play show table) read old new h same = no_names old new read (ap (λ (r : Read Job). r.loads) h) same
-asked (Text job) read old new h same = no_names old new read (ap (λ (r : Read Job). r.loads) h) same
-asked (Refused refusal) read old new h same = no_names old new read (ap (λ (r : Read Job). r.loads) h) same
-asked Memory read old new h same = (0, asks_none old new same)
+-- ---- a step behind another, which itself looks up no file
 
-no_names_while : (prepared : Prepared) (old new : HostState) → new.asked ≡ old.asked → AsksWhilePreparing prepared [] old new
-no_names_while (Play show table) old new same = asks_none old new same
-no_names_while (Text job) old new same = asks_none old new same
-no_names_while (Refused refusal) old new same = asks_none old new same
-no_names_while Memory old new same = (0, asks_none old new same)
+module _ {X Y : Type 0} (first : Read X) (second : X → Read Y) where
+  both : Result X read.Stop → Read Y
+  both (Ok x) = read.after first.loads (second x)
+  both (Err stop) = record { loads = first.loads; end = Err stop }
 
-pub asked_on : (prepared : Prepared) (words : List (List ℕ)) (old new : HostState) → ((files : Files) → Reads prepared (words_read words files)) → new.asked ≡ old.asked → IfSome (names_on words old.files) (λ names. AsksWhilePreparing prepared names old new)
-asked_on prepared words old new h same = by old.files where
-  without : List Load → Option (List (List ℕ))
-  without [] = Some []
-  without (load ∷ more) = None
+  bound_end : (x : X) → first.end ≡ Ok x → (first >>= second).end ≡ (second x).end
+  unfolding both
+  bound_end x ok = ap (λ end. (both end).end) ok
 
-  by_loads : (ls : List Load) → IfSome (without ls) (λ names. AsksWhilePreparing prepared names old new)
-  by_loads [] = no_names_while prepared old new same
-  by_loads (load ∷ more) = tt
+  bound_stop : (stop : read.Stop) → first.end ≡ Err stop → (first >>= second).end ≡ Err stop
+  unfolding both
+  bound_stop stop is = ap (λ end. (both end).end) is
 
-  by : (files : Option Files) → IfSome (names_on words files) (λ names. AsksWhilePreparing prepared names old new)
-  by (Some files) = asked prepared (words_read words files) old new (h files) same
-  by None = by_loads (loads words no_files)
+  bound_loads : ((x : X) → (second x).loads ≡ []) → (first >>= second).loads ≡ first.loads
+  unfolding both
+  bound_loads none = by first.end where
+    by : (end : Result X read.Stop) → (both end).loads ≡ first.loads
+    by (Ok x) = ap (λ more. first.loads ++ more) (none x) ∙ append-nil first.loads
+    by (Err stop) = refl
 
--- ---- and stay so
+module _ (step : Read shown.Show) where
+  abbrev then_play : shown.Show → Read Job
+  then_play show = read.done (meaning.Play show)
 
-asks_on : (names : List (List ℕ)) (a b c : HostState) → c.asked ≡ b.asked → Asks names a b → Asks names a c
-asks_on names a b c same h =
-    subst (λ asked. IfSome asked (λ after. IsSomeAnd a.asked (λ before. after ≡ before ++ names))) (sym same) h
+  show_loads : (show_read step).loads ≡ step.loads
+  show_loads = bound_loads step then_play (λ show. refl)
 
--- whatever the answer
-pub asked_from : (s : Status) (names : List (List ℕ)) (a b c : HostState) → c.asked ≡ b.asked → Asks names a b → AsksFor s names a c
-asked_from (status.Done tally) names a b c same h = asks_on names a b c same h
-asked_from (status.Refused refusal) names a b c same h = asks_on names a b c same h
-asked_from (status.SinkFault port tally) names a b c same h = asks_on names a b c same h
-asked_from status.Memory names a b c same h =
-    (length names, subst (λ all. Asks all a c) (sym (take-length names)) (asks_on names a b c same h))
+  pub tells_show : (files : Files) (host : HostState) → Tells files (show_read step) host → Tells files step host
+  tells_show files host (inl told) = inl told
+  tells_show files host (inr none) = inr (sym show_loads ∙ none)
 
-pub some_asked_from : (s : Status) (names : List (List ℕ)) (a b c : HostState) → s ≡ status.Memory → c.asked ≡ b.asked → (count : ℕ) × Asks (take count names) a b → AsksFor s names a c
-some_asked_from s names a b c is same h =
-    subst (λ s. AsksFor s names a c) (sym is) (h.0, asks_on (take h.0 names) a b c same h.1)
+  module _ (a b : HostState) where
+    pub play_goes : (show : Show) (table : List Source) → step.end ≡ Ok (meant show table) → Asks (names_of step.loads) a b → GoesPrepared (Play show table) (show_read step) a b
+    play_goes show table ok asked = record {
+      means = bound_end step then_play (meant show table) ok;
+      asked = subst (λ ls. Asks (names_of ls) a b) (sym show_loads) asked;
+    }
+
+    pub refusal_goes : (refusal : Refusal) → step.end ≡ Err (read.Refused refusal) → Asks (names_of step.loads) a b → GoesPrepared (Refused refusal) (show_read step) a b
+    refusal_goes refusal is asked = record {
+      means = bound_stop step then_play (read.Refused refusal) is;
+      asked = subst (λ ls. Asks (names_of ls) a b) (sym show_loads) asked;
+    }
+
+    pub fault_goes : (place : ℕ) → StopsAt place step.loads a b → GoesPrepared (SourceFault place) (show_read step) a b
+    fault_goes place stops = record { means = tt; asked = subst (λ ls. StopsAt place ls a b) (sym show_loads) stops }
+
+    pub memory_goes : (fault : BuildFault) → fault ≡ build.Memory → Fails fault step a b → GoesPrepared Memory (show_read step) a b
+    memory_goes fault is fails = record {
+      means = tt;
+      asked = subst (λ ls. AsksSome ls a b) (sym show_loads) (subst (λ f. Fails f step a b) is fails);
+    }
+
+-- ---- the words, on a host that tells the files that they name
+
+module _ (prepared : Prepared) (words : List (List ℕ)) (a b : HostState) (goes : (files : Files) → Tells files (words_read words files) a → GoesPrepared prepared (words_read words files) a b) where
+  pub means_on : IfSome (reading_on words a.files) (Means prepared)
+  means_on = by a.files refl where
+    without : List Load → Option Reading
+    without [] = Some (words_read words no_files).end
+    without (load ∷ more) = None
+
+    by_loads : (ls : List Load) → (words_read words no_files).loads ≡ ls → IfSome (without ls) (Means prepared)
+    by_loads [] none = (goes no_files (inr none)).means
+    by_loads (load ∷ more) some = tt
+
+    by : (files : Option Files) → a.files ≡ files → IfSome (reading_on words files) (Means prepared)
+    by (Some files) told = (goes files (inl told)).means
+    by None untold = by_loads (words_read words no_files).loads refl
+
+  pub asked_on : IfSome (loads_on words a.files) (λ loads. AsksWhilePreparing prepared loads a b)
+  asked_on = by a.files refl where
+    without : List Load → Option (List Load)
+    without [] = Some []
+    without (load ∷ more) = None
+
+    by_loads : (ls : List Load) → (words_read words no_files).loads ≡ ls → IfSome (without ls) (λ loads. AsksWhilePreparing prepared loads a b)
+    by_loads [] none = subst (λ ls. AsksWhilePreparing prepared ls a b) none (goes no_files (inr none)).asked
+    by_loads (load ∷ more) some = tt
+
+    by : (files : Option Files) → a.files ≡ files → IfSome (loads_on words files) (λ loads. AsksWhilePreparing prepared loads a b)
+    by (Some files) told = (goes files (inl told)).asked
+    by None untold = by_loads (words_read words no_files).loads refl
+
+-- ---- no more is asked for when the words are done
+
+module _ (a b c : HostState) (same : c.asked ≡ b.asked) where
+  asks_on : (names : List (List ℕ)) → Asks names a b → Asks names a c
+  asks_on names h =
+      subst (λ asked. IfSome asked (λ after. IsSomeAnd a.asked (λ before. after ≡ before ++ names))) (sym same) h
+
+  -- all files were asked for
+  pub all_asked : (s : Status) (loads : List Load) → IfSourceFault s (λ _. ⊥) → Asks (names_of loads) a b → AsksFor s loads a c
+  all_asked (status.Done tally) loads read h = asks_on (names_of loads) h
+  all_asked (status.Refused refusal) loads read h = asks_on (names_of loads) h
+  all_asked (status.SourceFault place) loads read h = absurd read
+  all_asked (status.SinkFault port tally) loads read h = asks_on (names_of loads) h
+  all_asked status.Memory loads read h =
+      (length (names_of loads), subst (λ names. Asks names a c) (sym (take-length (names_of loads))) (asks_on (names_of loads) h))
+
+  -- those up to the one that can't be read
+  pub front_asked : (s : Status) (place : ℕ) (loads : List Load) → s ≡ status.SourceFault place → StopsAt place loads a b → AsksFor s loads a c
+  front_asked s place loads is h =
+      subst (λ s. AsksFor s loads a c) (sym is) (record { before = h.before; name = h.name; rest = h.rest; order = h.order; asked = asks_on (names_of h.before ++ h.name ∷ []) h.asked })
+
+  -- some of the first
+  pub some_asked : (s : Status) (loads : List Load) → s ≡ status.Memory → AsksSome loads a b → AsksFor s loads a c
+  some_asked s loads is h =
+      subst (λ s. AsksFor s loads a c) (sym is) (h.0, asks_on (take h.0 (names_of loads)) h.1)

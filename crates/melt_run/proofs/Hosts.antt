@@ -19,11 +19,10 @@ abbrev state : Option Files → Option (List (List ℕ)) → (Port → Option Po
 state files asked port load_faults faults creates =
     record { files = files; asked = asked; port = port; load_faults = load_faults; faults = faults; creates = creates }
 
--- a host on which files were loaded without a fault is as before, but for the names asked
-pub loaded : (a b : HostState) → OnlyLoads a b → b.load_faults ≡ a.load_faults → b ≡ record a { asked = b.asked }
-loaded a b only loads =
+-- a host on which files were loaded is as before, but for the names asked and the count of loads
+pub loaded : (a b : HostState) → OnlyLoads a b → b ≡ record a { asked = b.asked; load_faults = b.load_faults }
+loaded a b only =
     ap (λ files. state files b.asked b.port b.load_faults b.faults b.creates) only.files
     ∙ ap (λ port. state a.files b.asked port b.load_faults b.faults b.creates) (fun_ext only.ports)
-    ∙ ap (λ load_faults. state a.files b.asked a.port load_faults b.faults b.creates) loads
-    ∙ ap (λ faults. state a.files b.asked a.port a.load_faults faults b.creates) (fun_ext only.faults)
-    ∙ ap (λ creates. state a.files b.asked a.port a.load_faults a.faults creates) (fun_ext only.creates)
+    ∙ ap (λ faults. state a.files b.asked a.port b.load_faults faults b.creates) (fun_ext only.faults)
+    ∙ ap (λ creates. state a.files b.asked a.port b.load_faults a.faults creates) (fun_ext only.creates)

@@ -3,6 +3,7 @@ mod Counted
 mod Drawn
 mod Fronted
 mod Hosts
+mod Lent
 mod Lifts
 mod Loaded
 mod Named

@@ -5,15 +5,15 @@ use Rattle.mlt_base.specs.declared.port.Port.TheVariants.{Video, Audio, Script, 
 use Rattle.mlt_host.specs.Count.{next}
 use Rattle.mlt_host.specs.Host.{HostState, PortState, OnlyPort, Rose, appended, cut_short}
 use Rattle.mlt_tree.specs.declared.refusal.Refusal.{Refusal}
-use Rattle.mlt_tree.specs.Lines.{refusal_line, memory_line}
+use Rattle.mlt_tree.specs.Lines.{refusal_line, source_line, memory_line}
 use Rattle.mlt_tree.specs.Loading as read
 use Rattle.mlt_tree.specs.Reading.{Reading, Play, Print, TextJob, job_text}
 use Rattle.mlt_tree.specs.Show.{Show, written_name, written_frames}
 use Rattle.melt_run.specs.declared.status.Status.{Status}
-use Rattle.melt_run.specs.declared.status.Status.TheVariants.{Done, Refused, SinkFault, Memory}
+use Rattle.melt_run.specs.declared.status.Status.TheVariants.{Done, Refused, SourceFault, SinkFault, Memory}
 use Rattle.melt_run.specs.declared.status.Tally.{Tally}
-use Rattle.melt_run.specs.Ends.{EndsShow, EndsPrint, EndsStopped, OnlyTells, PrintsOrTells, Ends}
-use Rattle.melt_run.specs.Outcome.{Tells, CountsRun, CountsLine, KeepsHost, CreatesNothing}
+use Rattle.melt_run.specs.Ends.{EndsShow, EndsPrint, EndsStopped, OnlyTells, PlaysOrTells, PrintsOrTells, Ends}
+use Rattle.melt_run.specs.Outcome.{Tells, CountsRun, CountsLoads, CountsPorts, CountsLine, KeepsHost, CreatesNothing}
 use Rattle.melt_run.specs.Play.{EachOutput, Plays, KeepsElse, Stops, IsCutAt, IsUncreated, CountsFaults, CreatesOnce, comes_before, fronted}
 use Rattle.melt_run.specs.Prints.{Prints}
 use Rattle.melt_run.specs.Status.{line_of, IfSinkFault, IfMemory}
@@ -60,10 +60,11 @@ module _ (show : Show) (a b c : HostState) (line : OnlyPort Text b c) where
   stops_kept failed tally (inr h) =
       inr (record { counts = h.counts; cut = each_kept show (λ port name now. IfSome now (IsCutAt show failed port name tally.frames)) b c line.other_ports h.cut })
 
-  plays_kept : (status : Status) → Plays show status a b → Plays show status a c
+  plays_kept : (status : Status) → Plays show status a b → PlaysOrTells show status a c
   plays_kept (Done tally) h =
       (h.0, each_kept show (λ port name now. IfSome now (λ state. state ≡ fronted show port name (written_frames show))) b c line.other_ports h.1)
   plays_kept (Refused refusal) h = absurd h
+  plays_kept (SourceFault place) h = absurd h
   plays_kept (SinkFault failed tally) h = (h.0, stops_kept failed tally h.1)
   plays_kept Memory h = each_kept show (λ port name now. now ≡ a.port port) b c line.other_ports h
 
@@ -77,6 +78,7 @@ module _ (show : Show) (a b c : HostState) (line : OnlyPort Text b c) where
       by : (status : Status) → Plays show status a b → CountsFaults status a.faults b.faults → b.faults Text ≡ a.faults Text
       by (Done tally) plays h = h Text
       by (Refused refusal) plays h = h Text
+      by (SourceFault place) plays h = h Text
       by (SinkFault failed tally) plays h = h.2 Text (λ e. no_text show failed plays.0 (sym e))
       by Memory plays h = h Text
 
@@ -85,6 +87,7 @@ module _ (show : Show) (a b c : HostState) (line : OnlyPort Text b c) where
       by : (status : Status) → Plays show status a b → CountsFaults status a.faults b.faults → IfSinkFault status (λ port tally. Rose (a.faults port) (c.faults port))
       by (Done tally) plays h = tt
       by (Refused refusal) plays h = tt
+      by (SourceFault place) plays h = tt
       by (SinkFault failed tally) plays h = subst (Rose (a.faults failed)) (sym (line.other_faults failed (no_text show failed plays.0))) h.0
       by Memory plays h = tt
 
@@ -116,11 +119,12 @@ module _ (show : Show) (a b c : HostState) (line : OnlyPort Text b c) where
       all_same h text Script = line.other_faults Script (λ e. cc) ∙ h Script
       all_same h text Text = text
 
-      pub show_counts : CountsRun status a c
-      show_counts = by status plays keeps.faults line_told where
-        by : (status : Status) → Plays show status a b → CountsFaults status a.faults b.faults → Tells (line_of status) a c → CountsRun status a c
+      show_ports : CountsPorts status a c
+      show_ports = by status plays keeps.faults line_told where
+        by : (status : Status) → Plays show status a b → CountsFaults status a.faults b.faults → Tells (line_of status) a c → CountsPorts status a c
         by (Done tally) plays h told = all_same h told.1
         by (Refused refusal) plays h told = absurd plays
+        by (SourceFault place) plays h told = absurd plays
         by (SinkFault failed tally) plays h told = record {
           rose = subst (Rose (a.faults failed)) (sym (line.other_faults failed (no_text show failed plays.0))) h.0;
           others = λ port apart text. line.other_faults port text ∙ h.2 port apart;
@@ -128,12 +132,29 @@ module _ (show : Show) (a b c : HostState) (line : OnlyPort Text b c) where
         }
         by Memory plays h told = record { others = λ port text. line.other_faults port text ∙ h port; told = told }
 
+      -- no file was loaded
+      show_loads : CountsLoads status a c
+      show_loads = by status plays where
+        same : c.load_faults ≡ a.load_faults
+        same = line.load_faults ∙ keeps.loads
+
+        by : (status : Status) → Plays show status a b → CountsLoads status a c
+        by (Done tally) plays = same
+        by (Refused refusal) plays = same
+        by (SourceFault place) plays = absurd plays
+        by (SinkFault failed tally) plays = same
+        by Memory plays = same
+
+      pub show_counts : CountsRun status a c
+      show_counts = record { loads = show_loads; ports = show_ports }
+
       once_of : (o : Option (List ℕ)) (old new : ℕ) → CreatesOnce o status old new → (new ≡ old) ⊎ (new ≡ next old)
       once_of None old new h = inl h
       once_of (Some name) old new h = by status h where
         by : (status : Status) → CreatesOnce (Some name) status old new → (new ≡ old) ⊎ (new ≡ next old)
         by (Done tally) h = inr h
         by (Refused refusal) h = inl h
+        by (SourceFault place) h = inl h
         by (SinkFault failed tally) h = h
         by Memory h = inl h
 
@@ -146,6 +167,7 @@ module _ (show : Show) (a b c : HostState) (line : OnlyPort Text b c) where
         by : (status : Status) → CountsFaults status a.faults b.faults → a.faults port ≤ b.faults port
         by (Done tally) h = same (h port)
         by (Refused refusal) h = same (h port)
+        by (SourceFault place) h = same (h port)
         by (SinkFault failed tally) h = h.1 port
         by Memory h = same (h port)
 
@@ -159,7 +181,7 @@ module _ (show : Show) (a b c : HostState) (line : OnlyPort Text b c) where
         pub show_keeps : KeepsHost a c
         show_keeps = record {
           files = line.files ∙ keeps.files;
-          loads = line.load_faults ∙ keeps.loads;
+          never_falls_loads = let same = line.load_faults ∙ keeps.loads in omega (arith, same);
           never_falls = λ port. omega (arith, falls port, all_fall port);
           once = λ port. once_of (written_name show port) (a.creates port) (c.creates port) (creates port);
         }
@@ -177,6 +199,7 @@ module _ (show : Show) (a b c : HostState) (line : OnlyPort Text b c) where
         by : (status : Status) → Plays show status a b → ((port : Port) → CreatesOnce (written_name show port) status (a.creates port) (c.creates port)) → IfMemory status (CreatesNothing a c)
         by (Done tally) plays made = tt
         by (Refused refusal) plays made = tt
+        by (SourceFault place) plays made = tt
         by (SinkFault failed tally) plays made = tt
         by Memory plays made = record {
           ports = λ port text. line.other_ports port text ∙ port_kept port (written_name show port) refl (plays port);
@@ -205,7 +228,7 @@ module _ (a c : HostState) (only : OnlyPort Text a c) (text_creates : c.creates 
   text_fall Text = text_falls
 
   pub text_keeps : KeepsHost a c
-  text_keeps = record { files = only.files; loads = only.load_faults; never_falls = text_fall; once = λ port. inl (all_created port) }
+  text_keeps = record { files = only.files; never_falls_loads = let same = only.load_faults in omega (arith, same); never_falls = text_fall; once = λ port. inl (all_created port) }
 
   pub text_counts : (line : List ℕ) → Tells line a c → CountsLine line a c
   text_counts line told = record { others = only.other_faults; told = told }
@@ -216,6 +239,7 @@ module _ (a c : HostState) (only : OnlyPort Text a c) (text_creates : c.creates 
     by : (status : Status) → Prints (job_text job) status a c → PrintsOrTells job status a c
     by (Done tally) h = h
     by (Refused refusal) h = absurd h
+    by (SourceFault place) h = absurd h
     by (SinkFault port tally) h = h
     by Memory h = absurd h
 
@@ -225,43 +249,76 @@ module _ (a c : HostState) (only : OnlyPort Text a c) (text_creates : c.creates 
   same_faults h Script = only.other_faults Script (λ e. cc)
   same_faults h Text = h
 
-  pub print_counts : (job : TextJob) (status : Status) → Prints (job_text job) status a c → CountsRun status a c
-  print_counts job (Done tally) h = same_faults h.2
-  print_counts job (Refused refusal) h = absurd h
-  print_counts job (SinkFault port tally) h = record {
+  print_ports : (job : TextJob) (status : Status) → Prints (job_text job) status a c → CountsPorts status a c
+  print_ports job (Done tally) h = same_faults h.2
+  print_ports job (Refused refusal) h = absurd h
+  print_ports job (SourceFault place) h = absurd h
+  print_ports job (SinkFault port tally) h = record {
     rose = subst (λ p. Rose (a.faults p) (c.faults p)) (sym h.0) h.3;
     others = λ other apart text. only.other_faults other text;
     told = λ text. absurd (text h.0);
   }
-  print_counts job Memory h = absurd h
+  print_ports job Memory h = absurd h
+
+  print_loads : (job : TextJob) (status : Status) → Prints (job_text job) status a c → CountsLoads status a c
+  print_loads job (Done tally) h = only.load_faults
+  print_loads job (Refused refusal) h = absurd h
+  print_loads job (SourceFault place) h = absurd h
+  print_loads job (SinkFault port tally) h = only.load_faults
+  print_loads job Memory h = absurd h
+
+  pub print_counts : (job : TextJob) (status : Status) → Prints (job_text job) status a c → CountsRun status a c
+  print_counts job status h = record { loads = print_loads job status h; ports = print_ports job status h }
 
   -- a refusal was told
   pub refused_ends : (refusal : Refusal) (status : Status) → status ≡ Refused refusal → Tells (refusal_line refusal) a c → EndsStopped (read.Refused refusal) status a c
   refused_ends refusal status is told =
       subst (λ s. EndsStopped (read.Refused refusal) s a c) (sym is) (record { answer = refl; line = told; rest = only_tells })
 
-  pub refused_counts : (refusal : Refusal) (status : Status) → status ≡ Refused refusal → Tells (refusal_line refusal) a c → CountsRun status a c
-  refused_counts refusal status is told = subst (λ s. CountsRun s a c) (sym is) (text_counts (refusal_line refusal) told)
+  pub refused_ports : (refusal : Refusal) (status : Status) → status ≡ Refused refusal → Tells (refusal_line refusal) a c → CountsPorts status a c
+  refused_ports refusal status is told = subst (λ s. CountsPorts s a c) (sym is) (text_counts (refusal_line refusal) told)
+
+  -- each output is as before
+  same_outputs : (show : Show) → EachOutput show (λ port name. c.port port ≡ a.port port)
+  same_outputs show Video = only.other_ports Video (λ e. cc)
+  same_outputs show Audio = by show.output.audio where
+    by : (o : Option (List ℕ)) → IfSome o (λ name. c.port Audio ≡ a.port Audio)
+    by None = tt
+    by (Some name) = only.other_ports Audio (λ e. cc)
+  same_outputs show Script = tt
+  same_outputs show Text = tt
+
+  -- a file can't be read, whatever the words mean
+  unread_created : (place : ℕ) (o : Option (List ℕ)) (port : Port) → CreatesOnce o (SourceFault place) (a.creates port) (c.creates port)
+  unread_created place None port = all_created port
+  unread_created place (Some name) port = all_created port
+
+  pub unread_ends : (place : ℕ) (reading : Reading) (status : Status) → status ≡ SourceFault place → Tells (source_line place) a c → Ends reading status a c
+  unread_ends place reading status is told = subst (λ s. Ends reading s a c) (sym is) (by reading) where
+    by : (reading : Reading) → Ends reading (SourceFault place) a c
+    by (Ok (Play show)) = record {
+      plays = same_outputs show;
+      rose = tt;
+      others = λ port text none. only.other_ports port text;
+      creates = λ port. unread_created place (written_name show port) port;
+      line = told;
+    }
+    by (Ok (Print job)) = record { prints = told; rest = only_tells }
+    by (Err stop) = record { answer = tt; line = told; rest = only_tells }
+
+  pub unread_ports : (place : ℕ) (status : Status) → status ≡ SourceFault place → Tells (source_line place) a c → CountsPorts status a c
+  unread_ports place status is told = subst (λ s. CountsPorts s a c) (sym is) (text_counts (source_line place) told)
 
   -- memory was wanting, whatever the words mean
   memory_created : (o : Option (List ℕ)) (port : Port) → CreatesOnce o Memory (a.creates port) (c.creates port)
   memory_created None port = all_created port
   memory_created (Some name) port = all_created port
 
-  memory_plays : (show : Show) → Plays show Memory a c
-  memory_plays show Video = only.other_ports Video (λ e. cc)
-  memory_plays show Audio = by show.output.audio where
-    by : (o : Option (List ℕ)) → IfSome o (λ name. c.port Audio ≡ a.port Audio)
-    by None = tt
-    by (Some name) = only.other_ports Audio (λ e. cc)
-  memory_plays show Script = tt
-  memory_plays show Text = tt
-
   pub memory_ends : (reading : Reading) (status : Status) → status ≡ Memory → Tells memory_line a c → Ends reading status a c
   memory_ends reading status is told = subst (λ s. Ends reading s a c) (sym is) (by reading) where
     by : (reading : Reading) → Ends reading Memory a c
     by (Ok (Play show)) = record {
-      plays = memory_plays show;
+      plays = same_outputs show;
       rose = tt;
       others = λ port text none. only.other_ports port text;
       creates = λ port. memory_created (written_name show port) port;
@@ -270,5 +327,5 @@ module _ (a c : HostState) (only : OnlyPort Text a c) (text_creates : c.creates 
     by (Ok (Print job)) = record { prints = told; rest = only_tells }
     by (Err stop) = record { answer = tt; line = told; rest = only_tells }
 
-  pub memory_counts : (status : Status) → status ≡ Memory → Tells memory_line a c → CountsRun status a c
-  memory_counts status is told = subst (λ s. CountsRun s a c) (sym is) (text_counts memory_line told)
+  pub memory_ports : (status : Status) → status ≡ Memory → Tells memory_line a c → CountsPorts status a c
+  memory_ports status is told = subst (λ s. CountsPorts s a c) (sym is) (text_counts memory_line told)

@@ -10,11 +10,11 @@ use Rattle.mlt_tree.specs.Loading.{Stop}
 use Rattle.mlt_tree.specs.Reading.{Reading, Play, Print, TextJob, Written, written, written_of}
 use Rattle.mlt_tree.specs.Show.{Show, written_name, written_frames, piece, prefix}
 use Rattle.melt_run.specs.declared.status.Status.{Status}
-use Rattle.melt_run.specs.declared.status.Status.TheVariants.{Done, Refused, SinkFault, Memory}
+use Rattle.melt_run.specs.declared.status.Status.TheVariants.{Done, Refused, SourceFault, SinkFault, Memory}
 use Rattle.melt_run.specs.declared.status.Tally.{Tally}
-use Rattle.melt_run.specs.Ends.{Ends, EndsShow, IsStop, PrintsOrTells}
-use Rattle.melt_run.specs.Outcome.{HasFrontOf, Leaves, IsWritten, IsCreatedOnce, IsWholeTally, FailsAt, MeetsNoFault, IsDoneOrMemory, IsAccepted, Says}
-use Rattle.melt_run.specs.Play.{fronted, comes_before, whole_at, IsCutAt, IsUncreated, IsStopped, Stops, Plays, CreatesOnce}
+use Rattle.melt_run.specs.Ends.{Ends, EndsShow, IsStop, PlaysOrTells, PrintsOrTells}
+use Rattle.melt_run.specs.Outcome.{HasFrontOf, Leaves, IsWritten, IsCreatedOnce, IsWholeTally, FailsAt, MeetsNoFault, IsDoneOrMemory, IsAccepted, Says, CountsLoads}
+use Rattle.melt_run.specs.Play.{fronted, comes_before, whole_at, IsCutAt, IsUncreated, IsStopped, Stops, CreatesOnce}
 use Rattle.melt_run.specs.Status.{IfDone, IfRefused, IfSinkFault}
 
 if_some : {A : Type 0} {P Q : A → Type 0} → (o : Option A) → ((x : A) → P x → Q x) → IfSome o P → IfSome o Q
@@ -36,6 +36,7 @@ written_is (Ok (Play show)) (Done tally) a c ends = λ port apart.
 written_is (Ok (Print job)) (Done tally) a c ends = λ port apart. ends.rest.others port apart
 written_is (Err stop) (Done tally) a c ends = absurd ends.answer
 written_is reading (Refused refusal) a c ends = tt
+written_is reading (SourceFault place) a c ends = tt
 written_is reading (SinkFault port tally) a c ends = tt
 written_is reading Memory a c ends = tt
 
@@ -44,6 +45,7 @@ tally_is (Ok (Play show)) (Done tally) a c ends = ends.plays.0
 tally_is (Ok (Print job)) (Done tally) a c ends = ends.prints.0
 tally_is (Err stop) (Done tally) a c ends = absurd ends.answer
 tally_is reading (Refused refusal) a c ends = tt
+tally_is reading (SourceFault place) a c ends = tt
 tally_is reading (SinkFault port tally) a c ends = tt
 tally_is reading Memory a c ends = tt
 
@@ -54,19 +56,21 @@ refused_is (Ok (Play show)) (Refused refusal) a c ends = absurd ends.plays
 refused_is (Ok (Print job)) (Refused refusal) a c ends = absurd ends.prints
 refused_is (Err stop) (Refused refusal) a c ends = ap Err ends.answer
 refused_is reading (Done tally) a c ends = tt
+refused_is reading (SourceFault place) a c ends = tt
 refused_is reading (SinkFault port tally) a c ends = tt
 refused_is reading Memory a c ends = tt
 
-stop_is : (stop : Stop) (status : Status) (refusal : Refusal) → stop ≡ read.Refused refusal → IsStop stop status → (status ≡ Refused refusal) ⊎ (status ≡ Memory)
-stop_is stop (Done tally) refusal is h = absurd h
-stop_is stop (Refused other) refusal is h = inl (cc (is, h))
-stop_is stop (SinkFault port tally) refusal is h = absurd h
-stop_is stop Memory refusal is h = inr refl
+stop_is : (stop : Stop) (status : Status) (a c : HostState) (refusal : Refusal) → CountsLoads status a c → ¬ Rose a.load_faults c.load_faults → stop ≡ read.Refused refusal → IsStop stop status → (status ≡ Refused refusal) ⊎ (status ≡ Memory)
+stop_is stop (Done tally) a c refusal counts loaded is h = absurd h
+stop_is stop (Refused other) a c refusal counts loaded is h = inl (cc (is, h))
+stop_is stop (SourceFault place) a c refusal counts loaded is h = absurd (loaded counts)
+stop_is stop (SinkFault port tally) a c refusal counts loaded is h = absurd h
+stop_is stop Memory a c refusal counts loaded is h = inr refl
 
-pub refused_always_is : (reading : Reading) (status : Status) (a c : HostState) → Ends reading status a c → (refusal : Refusal) → reading ≡ Err (read.Refused refusal) → c.load_faults ≡ a.load_faults → (status ≡ Refused refusal) ⊎ (status ≡ Memory)
-refused_always_is (Ok (Play show)) status a c ends refusal is same = cc
-refused_always_is (Ok (Print job)) status a c ends refusal is same = cc
-refused_always_is (Err stop) status a c ends refusal is same = stop_is stop status refusal (cc is) ends.answer
+pub refused_always_is : (reading : Reading) (status : Status) (a c : HostState) → CountsLoads status a c → Ends reading status a c → (refusal : Refusal) → reading ≡ Err (read.Refused refusal) → ¬ Rose a.load_faults c.load_faults → (status ≡ Refused refusal) ⊎ (status ≡ Memory)
+refused_always_is (Ok (Play show)) status a c counts ends refusal is loaded = cc
+refused_always_is (Ok (Print job)) status a c counts ends refusal is loaded = cc
+refused_always_is (Err stop) status a c counts ends refusal is loaded = stop_is stop status a c refusal counts loaded (cc is) ends.answer
 
 -- ---- faults
 
@@ -77,17 +81,19 @@ fault_is (Ok (Print job)) (SinkFault port tally) a c ends =
 fault_is (Err stop) (SinkFault port tally) a c ends = absurd ends.answer
 fault_is reading (Done tally) a c ends = tt
 fault_is reading (Refused refusal) a c ends = tt
+fault_is reading (SourceFault place) a c ends = tt
 fault_is reading Memory a c ends = tt
 
-pub complete_is : (reading : Reading) (status : Status) (a c : HostState) → Ends reading status a c → IsAccepted reading → MeetsNoFault a c → IsDoneOrMemory status
-complete_is reading (Done tally) a c ends accepted none = tt
-complete_is (Ok (Play show)) (Refused refusal) a c ends accepted none = absurd ends.plays
-complete_is (Ok (Print job)) (Refused refusal) a c ends accepted none = absurd ends.prints
-complete_is (Err stop) (Refused refusal) a c ends accepted none = absurd accepted
-complete_is (Ok (Play show)) (SinkFault port tally) a c ends accepted none = absurd (none.ports port ends.rose)
-complete_is (Ok (Print job)) (SinkFault port tally) a c ends accepted none = let h = ends.prints in absurd (none.ports Text h.3)
-complete_is (Err stop) (SinkFault port tally) a c ends accepted none = absurd accepted
-complete_is reading Memory a c ends accepted none = tt
+pub complete_is : (reading : Reading) (status : Status) (a c : HostState) → CountsLoads status a c → Ends reading status a c → IsAccepted reading → MeetsNoFault a c → IsDoneOrMemory status
+complete_is reading (Done tally) a c counts ends accepted none = tt
+complete_is (Ok (Play show)) (Refused refusal) a c counts ends accepted none = absurd ends.plays
+complete_is (Ok (Print job)) (Refused refusal) a c counts ends accepted none = absurd ends.prints
+complete_is (Err stop) (Refused refusal) a c counts ends accepted none = absurd accepted
+complete_is reading (SourceFault place) a c counts ends accepted none = absurd (none.loads counts)
+complete_is (Ok (Play show)) (SinkFault port tally) a c counts ends accepted none = absurd (none.ports port ends.rose)
+complete_is (Ok (Print job)) (SinkFault port tally) a c counts ends accepted none = let h = ends.prints in absurd (none.ports Text h.3)
+complete_is (Err stop) (SinkFault port tally) a c counts ends accepted none = absurd accepted
+complete_is reading Memory a c counts ends accepted none = tt
 
 -- ---- fronts
 
@@ -183,9 +189,10 @@ show_front show status a c ends port apart = by status ends.plays where
   stops failed tally (inl h) = leaves_uncreated show port (a.port port) (c.port port) failed (written_name show port) refl (ends.others port apart) (h.1 port)
   stops failed tally (inr h) = leaves_cut show port (a.port port) (c.port port) failed tally h.counts (written_name show port) refl (ends.others port apart) (h.cut port)
 
-  by : (status : Status) → Plays show status a c → Leaves (written (Ok (Play show)) port) (a.port port) (c.port port)
+  by : (status : Status) → PlaysOrTells show status a c → Leaves (written (Ok (Play show)) port) (a.port port) (c.port port)
   by (Done tally) plays = leaves_whole show port (a.port port) (c.port port) (written_name show port) refl (ends.others port apart) (plays.1 port)
   by (Refused refusal) plays = absurd plays
+  by (SourceFault place) plays = leaves_same show port (a.port port) (c.port port) (written_name show port) refl (ends.others port apart) (plays port)
   by (SinkFault failed tally) plays = stops failed tally plays.1
   by Memory plays = leaves_same show port (a.port port) (c.port port) (written_name show port) refl (ends.others port apart) (plays port)
 
@@ -211,6 +218,7 @@ created_is (Err stop) status a c ends port = ends.rest.creates port
 says_print : (job : TextJob) (status : Status) (a c : HostState) → PrintsOrTells job status a c → Says (Ok (Print job)) status a c
 says_print job (Done tally) a c h = h.1
 says_print job (Refused refusal) a c h = h
+says_print job (SourceFault place) a c h = h
 says_print job (SinkFault port tally) a c h = h.2
 says_print job Memory a c h = h
 

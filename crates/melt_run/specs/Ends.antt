@@ -3,21 +3,29 @@ use Rattle.std.specs.Prelude.{◌≡◌, ◌≢◌, None, Ok, Err}
 use Rattle.mlt_base.specs.declared.port.Port.{Port}
 use Rattle.mlt_base.specs.declared.port.Port.TheVariants.{Text}
 use Rattle.mlt_host.specs.Host.{HostState, Rose}
-use Rattle.mlt_tree.specs.Lines.{memory_line}
+use Rattle.mlt_tree.specs.Lines.{source_line, memory_line}
 use Rattle.mlt_tree.specs.Loading as read
 use Rattle.mlt_tree.specs.Loading.{Stop}
 use Rattle.mlt_tree.specs.Reading.{Reading, Play, Print, TextJob, job_text}
 use Rattle.mlt_tree.specs.Show.{Show, written_name}
 use Rattle.melt_run.specs.declared.status.Status.{Status}
-use Rattle.melt_run.specs.declared.status.Status.TheVariants.{Done, Refused, SinkFault, Memory}
+use Rattle.melt_run.specs.declared.status.Status.TheVariants.{Done, Refused, SourceFault, SinkFault, Memory}
 use Rattle.melt_run.specs.Outcome.{Tells}
-use Rattle.melt_run.specs.Play.{Plays, CreatesOnce}
+use Rattle.melt_run.specs.Play.{EachOutput, Plays, CreatesOnce}
 use Rattle.melt_run.specs.Prints.{Prints}
 use Rattle.melt_run.specs.Status.{line_of, IfSinkFault}
 
+-- what the outputs have got; each is as before where a file can't be read
+abbrev pub PlaysOrTells : Show → Status → HostState → HostState → Type 0
+PlaysOrTells show (Done tally) old new = Plays show (Done tally) old new
+PlaysOrTells show (Refused refusal) old new = ⊥
+PlaysOrTells show (SourceFault place) old new = EachOutput show (λ port name. new.port port ≡ old.port port)
+PlaysOrTells show (SinkFault port tally) old new = Plays show (SinkFault port tally) old new
+PlaysOrTells show Memory old new = Plays show Memory old new
+
 -- a show was played, and a line told where it was not played whole
 pub record EndsShow (show : Show) (status : Status) (old new : HostState) : Type 0 where
-  pub plays : Plays show status old new
+  pub plays : PlaysOrTells show status old new
   pub rose : IfSinkFault status (λ port tally. Rose (old.faults port) (new.faults port))
   pub others : (port : Port) → port ≢ Text → written_name show port ≡ None → new.port port ≡ old.port port
   pub creates : (port : Port) → CreatesOnce (written_name show port) status (old.creates port) (new.creates port)
@@ -28,10 +36,11 @@ pub record OnlyTells (old new : HostState) : Type 0 where
   pub others : (port : Port) → port ≢ Text → new.port port ≡ old.port port
   pub creates : (port : Port) → new.creates port ≡ old.creates port
 
--- an answer was printed; where memory was wanting that was told in its place
+-- an answer was printed; where a file can't be read, or memory was wanting, that was told in its place
 abbrev pub PrintsOrTells : TextJob → Status → HostState → HostState → Type 0
 PrintsOrTells job (Done tally) old new = Prints (job_text job) (Done tally) old new
 PrintsOrTells job (Refused refusal) old new = ⊥
+PrintsOrTells job (SourceFault place) old new = Tells (source_line place) old new
 PrintsOrTells job (SinkFault port tally) old new = Prints (job_text job) (SinkFault port tally) old new
 PrintsOrTells job Memory old new = Tells memory_line old new
 
@@ -39,10 +48,11 @@ pub record EndsPrint (job : TextJob) (status : Status) (old new : HostState) : T
   pub prints : PrintsOrTells job status old new
   pub rest : OnlyTells old new
 
--- the answer where words are not read to their end; no word that is built names a file that could be missing
+-- the answer where words are not read to their end: the refusal, or a file that can't be read
 abbrev pub IsStop : Stop → Status → Type 0
 IsStop stop (Done tally) = ⊥
 IsStop stop (Refused refusal) = stop ≡ read.Refused refusal
+IsStop stop (SourceFault place) = Unit {0}
 IsStop stop (SinkFault port tally) = ⊥
 IsStop stop Memory = Unit {0}
 

@@ -1,5 +1,6 @@
 pub mod Ends
 pub mod Found
+pub mod Lending
 pub mod Outcome
 pub mod Pieces
 pub mod Pixels

@@ -1,18 +1,19 @@
 -- What the top call leaves on a host, by its answer and by what the words mean.
-use Rattle.std.specs.Prelude.{◌≡◌, ◌≢◌, ◌⊎◌, ◌≤◌, ◌++◌, ℕ, List, [], ◌∷◌, length, take, Option, None, Some, Ok, Err, IfSome}
+use Rattle.std.specs.Prelude.{◌≡◌, ◌≢◌, ◌⊎◌, ◌≤◌, ◌++◌, ℕ, List, [], ◌∷◌, length, Option, None, Some, Ok, Err, IfSome}
 use Rattle.std.specs.Option.{option_map}
 use Rattle.mlt_base.specs.declared.port.Port.{Port}
 use Rattle.mlt_base.specs.declared.port.Port.TheVariants.{Text}
 use Rattle.mlt_host.specs.Count.{next}
 use Rattle.mlt_host.specs.Host.{PortState, HostState, Rose, Appends, AppendsFront}
-use Rattle.mlt_tree.specs.Lines.{refusal_line, sink_line, memory_line}
+use Rattle.mlt_tree.specs.Lines.{refusal_line, source_line, sink_line, memory_line}
+use Rattle.mlt_tree.specs.Loading.{Load}
 use Rattle.mlt_tree.specs.Reading.{Reading, Play, Print, Written, job_port, text_bytes}
 use Rattle.mlt_tree.specs.Show.{written_name, written_frames}
+use Rattle.melt_build.specs.Loads.{Asks, StopsAt, AsksSome, names_of}
 use Rattle.melt_run.specs.declared.status.Tally.{Tally}
 use Rattle.melt_run.specs.declared.status.Status.{Status}
-use Rattle.melt_run.specs.declared.status.Status.TheVariants.{Done, Refused, SinkFault, Memory}
+use Rattle.melt_run.specs.declared.status.Status.TheVariants.{Done, Refused, SourceFault, SinkFault, Memory}
 use Rattle.melt_run.specs.Play.{no_tally, full_tally, Stops, CreatesOnce}
-use Rattle.melt_run.specs.Prepared.{Asks}
 use Rattle.melt_run.specs.Status.{line_of}
 
 -- ---- what each output has got
@@ -67,6 +68,7 @@ pub record MeetsNoFault (old new : HostState) : Type 0 where
 abbrev pub IsDoneOrMemory : Status → Type 0
 IsDoneOrMemory (Done tally) = Unit {0}
 IsDoneOrMemory (Refused refusal) = ⊥
+IsDoneOrMemory (SourceFault place) = ⊥
 IsDoneOrMemory (SinkFault port tally) = ⊥
 IsDoneOrMemory Memory = Unit {0}
 
@@ -89,16 +91,19 @@ abbrev pub Says : Reading → Status → HostState → HostState → Type 0
 Says (Ok (Play show)) status old new = Tells (line_of status) old new
 Says (Ok (Print job)) (Done tally) old new = Appends Text old new (text_bytes (Ok (Print job)))
 Says (Ok (Print job)) (Refused refusal) old new = ⊥
+Says (Ok (Print job)) (SourceFault place) old new = Tells (line_of (SourceFault place)) old new
 Says (Ok (Print job)) (SinkFault port tally) old new = AppendsFront Text old new (text_bytes (Ok (Print job)))
 Says (Ok (Print job)) Memory old new = Tells (line_of Memory) old new
 Says (Err stop) status old new = Tells (line_of status) old new
 
--- all of these names were asked for; some of the first of them where memory was wanting
-abbrev pub AsksFor : Status → List (List ℕ) → HostState → HostState → Type 0
-AsksFor (Done tally) names old new = Asks names old new
-AsksFor (Refused refusal) names old new = Asks names old new
-AsksFor (SinkFault port tally) names old new = Asks names old new
-AsksFor Memory names old new = (count : ℕ) × Asks (take count names) old new
+-- all of these files were asked for, in order; those up to the one that can't be read, or some of the first of them
+-- where memory was wanting
+abbrev pub AsksFor : Status → List Load → HostState → HostState → Type 0
+AsksFor (Done tally) loads old new = Asks (names_of loads) old new
+AsksFor (Refused refusal) loads old new = Asks (names_of loads) old new
+AsksFor (SourceFault place) loads old new = StopsAt place loads old new
+AsksFor (SinkFault port tally) loads old new = Asks (names_of loads) old new
+AsksFor Memory loads old new = AsksSome loads old new
 
 -- ---- what holds on every host, whatever it tells
 
@@ -113,16 +118,30 @@ pub record CountsFault (failed : Port) (old new : HostState) : Type 0 where
   pub others : (port : Port) → port ≢ failed → port ≢ Text → new.faults port ≡ old.faults port
   pub told : failed ≢ Text → Tells (sink_line failed) old new
 
--- how the counts of faults go: none has risen where all is done
-abbrev pub CountsRun : Status → HostState → HostState → Type 0
-CountsRun (Done tally) old new = (port : Port) → new.faults port ≡ old.faults port
-CountsRun (Refused refusal) old new = CountsLine (refusal_line refusal) old new
-CountsRun (SinkFault port tally) old new = CountsFault port old new
-CountsRun Memory old new = CountsLine memory_line old new
+-- how the count of loads that failed goes: it has risen where a file can't be read, and else it is as before
+abbrev pub CountsLoads : Status → HostState → HostState → Type 0
+CountsLoads (Done tally) old new = new.load_faults ≡ old.load_faults
+CountsLoads (Refused refusal) old new = new.load_faults ≡ old.load_faults
+CountsLoads (SourceFault place) old new = Rose old.load_faults new.load_faults
+CountsLoads (SinkFault port tally) old new = new.load_faults ≡ old.load_faults
+CountsLoads Memory old new = new.load_faults ≡ old.load_faults
 
--- the files stay, no load has failed, no count of faults has fallen, and no port was created twice
+-- how the ports' counts of faults go: none has risen where all is done
+abbrev pub CountsPorts : Status → HostState → HostState → Type 0
+CountsPorts (Done tally) old new = (port : Port) → new.faults port ≡ old.faults port
+CountsPorts (Refused refusal) old new = CountsLine (refusal_line refusal) old new
+CountsPorts (SourceFault place) old new = CountsLine (source_line place) old new
+CountsPorts (SinkFault port tally) old new = CountsFault port old new
+CountsPorts Memory old new = CountsLine memory_line old new
+
+-- how all counts of faults go
+pub record CountsRun (status : Status) (old new : HostState) : Type 0 where
+  pub loads : CountsLoads status old new
+  pub ports : CountsPorts status old new
+
+-- the files stay, no count of faults has fallen, and no port was created twice
 pub record KeepsHost (old new : HostState) : Type 0 where
   pub files : new.files ≡ old.files
-  pub loads : new.load_faults ≡ old.load_faults
+  pub never_falls_loads : old.load_faults ≤ new.load_faults
   pub never_falls : (port : Port) → old.faults port ≤ new.faults port
   pub once : (port : Port) → (new.creates port ≡ old.creates port) ⊎ (new.creates port ≡ next (old.creates port))

@@ -7,7 +7,7 @@ use Rattle.mlt_host.specs.Host.{PortState, HostState, Rose}
 use Rattle.mlt_tree.specs.Show.{Show, written_name, written_frames, piece, prefix, loads_to}
 use Rattle.melt_run.specs.declared.status.Tally.{Tally}
 use Rattle.melt_run.specs.declared.status.Status.{Status}
-use Rattle.melt_run.specs.declared.status.Status.TheVariants.{Done, Refused, SinkFault, Memory}
+use Rattle.melt_run.specs.declared.status.Status.TheVariants.{Done, Refused, SourceFault, SinkFault, Memory}
 
 -- ---- the accounts
 
@@ -83,6 +83,7 @@ abbrev pub Plays : Show → Status → HostState → HostState → Type 0
 Plays show (Done tally) old new =
     (tally ≡ full_tally show (written_frames show)) × EachOutput show (λ port name. IfSome (new.port port) (λ now. now ≡ fronted show port name (written_frames show)))
 Plays show (Refused refusal) old new = ⊥
+Plays show (SourceFault place) old new = ⊥
 Plays show (SinkFault failed tally) old new = (written_name show failed ≢ None) × Stops show failed tally old new
 Plays show Memory old new = EachOutput show (λ port name. new.port port ≡ old.port port)
 
@@ -92,6 +93,7 @@ Plays show Memory old new = EachOutput show (λ port name. new.port port ≡ old
 abbrev pub CountsFaults : Status → (Port → ℕ) → (Port → ℕ) → Type 0
 CountsFaults (Done tally) old new = (port : Port) → new port ≡ old port
 CountsFaults (Refused refusal) old new = (port : Port) → new port ≡ old port
+CountsFaults (SourceFault place) old new = (port : Port) → new port ≡ old port
 CountsFaults (SinkFault failed tally) old new =
     Rose (old failed) (new failed) × ((port : Port) → old port ≤ new port) × ((port : Port) → port ≢ failed → new port ≡ old port)
 CountsFaults Memory old new = (port : Port) → new port ≡ old port
@@ -100,6 +102,7 @@ CountsFaults Memory old new = (port : Port) → new port ≡ old port
 abbrev pub IsCreated : Status → ℕ → ℕ → Type 0
 IsCreated (Done tally) old new = new ≡ next old
 IsCreated (Refused refusal) old new = new ≡ old
+IsCreated (SourceFault place) old new = new ≡ old
 IsCreated (SinkFault failed tally) old new = (new ≡ old) ⊎ (new ≡ next old)
 IsCreated Memory old new = new ≡ old
 

@@ -2,7 +2,7 @@
 
 ghost use Rattle.std.specs.Prelude.{◌≡◌, ◌≤◌, ◌<◌, ◌+◌, ◌*◌, ◌++◌, [], All, length, map, take, drop};
 ghost use Rattle.mlt_tree.specs.declared.refusal.Cause.TheVariants.{OutOfRange};
-ghost use Rattle.mlt_tree.specs.Lines.{Count, Number, piece_text, text_of, words, cause_pieces, inner_pieces, port_text, refusal_line, sink_line, memory_line};
+ghost use Rattle.mlt_tree.specs.Lines.{Count, Number, piece_text, text_of, words, cause_pieces, inner_pieces, port_text, refusal_line, source_line, sink_line, memory_line};
 ghost use Rattle.melt_run.specs.Pieces.{piece_view, IsShort};
 ghost use Rattle.melt_run.specs.Status.{line_of};
 
@@ -240,6 +240,15 @@ fn cause_pieces(cause: Cause) -> [Piece; 6]
             NOTHING,
             NOTHING,
         ],
+        Cause::FileTooLarge { limit } => [
+            Words("file longer than "),
+            Count(limit),
+            Words(" bytes"),
+            NOTHING,
+            NOTHING,
+            NOTHING,
+        ],
+        Cause::BadPicture(_) => words("bad picture"),
     }
 }
 
@@ -287,6 +296,20 @@ fn refusal_line(refusal: &Refusal) -> Line
     line
 }
 
+/// The line of a file that cannot be read.
+fn source_line(place: u32) -> Line
+    ensures { result ≡ source_line place }
+{
+    let mut line = Line::new();
+    line.pieces(&[
+        Piece::Words("melt: word "),
+        count(place),
+        Piece::Words(": "),
+    ]);
+    line.text("cannot read\n");
+    line
+}
+
 /// The line of a port that cannot be written.
 fn sink_line(port: Port) -> Line
     ensures { result ≡ sink_line port }
@@ -314,6 +337,7 @@ pub fn fault_line(status: &Status) -> Line
     match status {
         Status::Done(_) => Line::new(),
         Status::Refused(refused) => refusal_line(refused),
+        Status::SourceFault(place) => source_line(*place),
         Status::SinkFault(port, _) => sink_line(*port),
         Status::Memory => memory_line(),
     }

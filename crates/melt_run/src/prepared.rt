@@ -13,15 +13,17 @@ ghost use Rattle.mlt_tree.specs.Sources.{Fits};
 ghost use Rattle.mlt_tree.specs.Unbuilt.{IsPlayed};
 ghost use Rattle.mlt_graph.specs.Sealed.{tree};
 ghost use Rattle.mlt_graph.specs.Show.{meant};
-ghost use Rattle.melt_run.specs.Prepared.{Meant, Means, Reads, IfPlay, names_on, AsksWhilePreparing};
+ghost use Rattle.melt_build.specs.Loads.{Tells};
+ghost use Rattle.melt_run.specs.Prepared.{Meant, Means, Reads, IfPlay, GoesPrepared, CountsPrepared, loads_on, AsksWhilePreparing};
 ghost use Rattle.melt_run.specs.Show.{texts};
 
 use crate::text::TextJob;
-use melt_build::{BuildFault, SourceTable, build};
+use melt_build::{BuildFault, build};
 use melt_words::groups;
 use mlt_base::{Try, WordCause, WordFault};
 use mlt_graph::Show;
 use mlt_host::Host;
+use mlt_source::SourceTable;
 use mlt_tree::{Cause, Group, GroupKind, GroupList, QueryKind, Refusal};
 use std::alloc::Global;
 
@@ -32,6 +34,8 @@ pub enum Prepared {
     Play(Show, SourceTable),
     Text(TextJob),
     Refused(Refusal),
+    /// The file that the word at this place names can't be read.
+    SourceFault(u32),
     Memory,
 }
 
@@ -135,16 +139,17 @@ fn later_job(groups: &[Group]) -> Option<&Group>
 /// The show that the groups mean.
 fn play<H: Host>(alloc: Global, groups: &GroupList, host: &mut H) -> Prepared
     requires { All IsAllowed groups.now }
-    ensures reads { (files : Files) → Reads result (meaning.show_read (show_of files (words_in groups.now) groups.now)) }
+    ensures goes { (files : Files) → Tells files (meaning.show_read (show_of files (words_in groups.now) groups.now)) (H.state host.old) →
+        GoesPrepared result (meaning.show_read (show_of files (words_in groups.now) groups.now)) (H.state host.old) (H.state host.new) }
     ensures fits { IfPlay result (λ show table. Fits table (tree show.sealed)) }
     ensures played { IfPlay result (λ show table. IsPlayed (meant show table)) }
-    ensures asked { (H.state host.new).asked ≡ (H.state host.old).asked }
-    ensures loads { (H.state host.new).load_faults ≡ (H.state host.old).load_faults }
+    ensures counts { CountsPrepared result (H.state host.old) (H.state host.new) }
     ensures rest { OnlyLoads (H.state host.old) (H.state host.new) }
 {
     match build(alloc, groups, host) {
         Ok((show, table)) => Prepared::Play(show, table),
         Err(BuildFault::Refused(refusal)) => Prepared::Refused(refusal),
+        Err(BuildFault::SourceFault(place)) => Prepared::SourceFault(place),
         Err(BuildFault::Memory) => Prepared::Memory,
     }
 }
@@ -152,11 +157,11 @@ fn play<H: Host>(alloc: Global, groups: &GroupList, host: &mut H) -> Prepared
 /// The first of the jobs that the groups have, else to play.
 fn job<H: Host>(alloc: Global, groups: &GroupList, host: &mut H) -> Prepared
     requires { All IsAllowed groups.now }
-    ensures reads { (files : Files) → Reads result (meaning.job_of files (words_in groups.now) groups.now) }
+    ensures goes { (files : Files) → Tells files (meaning.job_of files (words_in groups.now) groups.now) (H.state host.old) →
+        GoesPrepared result (meaning.job_of files (words_in groups.now) groups.now) (H.state host.old) (H.state host.new) }
     ensures fits { IfPlay result (λ show table. Fits table (tree show.sealed)) }
     ensures played { IfPlay result (λ show table. IsPlayed (meant show table)) }
-    ensures asked { (H.state host.new).asked ≡ (H.state host.old).asked }
-    ensures loads { (H.state host.new).load_faults ≡ (H.state host.old).load_faults }
+    ensures counts { CountsPrepared result (H.state host.old) (H.state host.new) }
     ensures rest { OnlyLoads (H.state host.old) (H.state host.new) }
 {
     let list = groups.as_slice();
@@ -174,11 +179,11 @@ fn job<H: Host>(alloc: Global, groups: &GroupList, host: &mut H) -> Prepared
 
 /// What the words mean.
 fn read<H: Host>(alloc: Global, words: &[String], host: &mut H) -> Prepared
-    ensures reads { (files : Files) → Reads result (meaning.words_read (texts words.now) files) }
+    ensures goes { (files : Files) → Tells files (meaning.words_read (texts words.now) files) (H.state host.old) →
+        GoesPrepared result (meaning.words_read (texts words.now) files) (H.state host.old) (H.state host.new) }
     ensures fits { IfPlay result (λ show table. Fits table (tree show.sealed)) }
     ensures played { IfPlay result (λ show table. IsPlayed (meant show table)) }
-    ensures asked { (H.state host.new).asked ≡ (H.state host.old).asked }
-    ensures loads { (H.state host.new).load_faults ≡ (H.state host.old).load_faults }
+    ensures counts { CountsPrepared result (H.state host.old) (H.state host.new) }
     ensures rest { OnlyLoads (H.state host.old) (H.state host.new) }
 {
     match groups(alloc, words) {
@@ -188,17 +193,18 @@ fn read<H: Host>(alloc: Global, words: &[String], host: &mut H) -> Prepared
     }
 }
 
-/// Reads the words, and loads the files that they name; no word that is built names one.
+/// Reads the words, and loads the files that they name, in word order, each time a word names one.
 ///
-/// It creates and appends nothing, and no count of faults changes. `Play` is a show with a table that fits
-/// it. `Refused` is the words' refusal, and `Memory` is want of memory.
+/// It creates and appends nothing. `Play` is a show with a table that fits it. `Refused` is the words' refusal.
+/// `SourceFault` names the word whose file can't be read, where the host's count of loads rose; that count
+/// stays with every other answer. `Memory` is want of memory.
 pub fn prepare<H: Host>(alloc: Global, words: &[String], host: &mut H) -> Prepared
     ensures means { Meant (texts words.now) (H.state host.old) (Means result) }
     ensures fits { IfPlay result (λ show table. Fits table (tree show.sealed)) }
     ensures played { IfPlay result (λ show table. IsPlayed (meant show table)) }
-    ensures asked { IfSome (names_on (texts words.now) (H.state host.old).files) (λ names.
-        AsksWhilePreparing result names (H.state host.old) (H.state host.new)) }
-    ensures loads { (H.state host.new).load_faults ≡ (H.state host.old).load_faults }
+    ensures asked { IfSome (loads_on (texts words.now) (H.state host.old).files) (λ loads.
+        AsksWhilePreparing result loads (H.state host.old) (H.state host.new)) }
+    ensures counts { CountsPrepared result (H.state host.old) (H.state host.new) }
     ensures rest { OnlyLoads (H.state host.old) (H.state host.new) }
 {
     read(alloc, words, host)

@@ -3,7 +3,7 @@
 ghost use Rattle.std.specs.Prelude.{◌≡◌, ◌≢◌, ◌⊎◌, ◌≤◌, Err, IfSome};
 ghost use Rattle.mlt_base.specs.declared.port.Port.{Port};
 ghost use Rattle.mlt_base.specs.declared.port.Port.TheVariants.{Text};
-ghost use Rattle.mlt_host.specs.Host.{OnlyPort};
+ghost use Rattle.mlt_host.specs.Host.{OnlyPort, Rose};
 ghost use Rattle.mlt_tree.specs.Loading as read;
 ghost use Rattle.mlt_tree.specs.Reading.{written};
 ghost use Rattle.mlt_tree.specs.Sources.{Fits};
@@ -13,9 +13,9 @@ ghost use Rattle.mlt_graph.specs.Sealed.{tree};
 ghost use Rattle.mlt_graph.specs.Show.{meant};
 ghost use Rattle.melt_run.specs.Ends.{Ends, EndsShow};
 ghost use Rattle.melt_run.specs.Outcome.{IsWritten, IsCreatedOnce, IsWholeTally, FailsAt, Leaves, Tells, AsksFor, MeetsNoFault, IsDoneOrMemory, IsAccepted, CreatesNothing, Says, CountsRun, KeepsHost};
-ghost use Rattle.melt_run.specs.Prepared.{Meant, names_on};
+ghost use Rattle.melt_run.specs.Prepared.{Meant, loads_on};
 ghost use Rattle.melt_run.specs.Show.{texts};
-ghost use Rattle.melt_run.specs.Status.{line_of, IfDone, IfRefused, IfSinkFault, IfMemory};
+ghost use Rattle.melt_run.specs.Status.{line_of, IfDone, IfRefused, IfSourceFault, IfSinkFault, IfMemory};
 
 use crate::gate::Gate;
 use crate::line::fault_line;
@@ -23,10 +23,10 @@ use crate::play::play_serial;
 use crate::prepared::{Prepared, prepare};
 use crate::status::Status;
 use crate::text::melt_text;
-use melt_build::SourceTable;
 use mlt_base::Port;
 use mlt_graph::Show;
 use mlt_host::Host;
+use mlt_source::SourceTable;
 use std::alloc::Global;
 
 /// Appends the run's line to the text that a person reads.
@@ -64,6 +64,7 @@ fn played<H: Host>(alloc: Global, show: Show, table: SourceTable, host: &mut H) 
     ensures nothing { IfMemory result (CreatesNothing (H.state host.old) (H.state host.new)) }
     ensures asked { (H.state host.new).asked ≡ (H.state host.old).asked }
     ensures never_refused { IfRefused result (λ _. ⊥) }
+    ensures never_unread { IfSourceFault result (λ _. ⊥) }
 {
     let status = play_serial(alloc, show, table, host);
     tell(host, &status);
@@ -76,13 +77,15 @@ fn run<H: Host>(alloc: Global, words: &[String], host: &mut H) -> Status
     ensures counts { CountsRun result (H.state host.old) (H.state host.new) }
     ensures keeps { KeepsHost (H.state host.old) (H.state host.new) }
     ensures untouched { IfRefused result (λ _. CreatesNothing (H.state host.old) (H.state host.new)) }
+    ensures unread { IfSourceFault result (λ _. CreatesNothing (H.state host.old) (H.state host.new)) }
     ensures nothing { IfMemory result (CreatesNothing (H.state host.old) (H.state host.new)) }
-    ensures asked { IfSome (names_on (texts words.now) (H.state host.old).files) (λ names. AsksFor result names (H.state host.old) (H.state host.new)) }
+    ensures asked { IfSome (loads_on (texts words.now) (H.state host.old).files) (λ loads. AsksFor result loads (H.state host.old) (H.state host.new)) }
 {
     match prepare(alloc, words, host) {
         Prepared::Play(show, table) => played(alloc, show, table, host),
         Prepared::Text(job) => melt_text(job, host),
         Prepared::Refused(refusal) => told(host, Status::Refused(refusal)),
+        Prepared::SourceFault(place) => told(host, Status::SourceFault(place)),
         Prepared::Memory => told(host, Status::Memory),
     }
 }
@@ -92,7 +95,8 @@ fn run<H: Host>(alloc: Global, words: &[String], host: &mut H) -> Status
 /// line where it could not.
 ///
 /// `rt` is the runtime, which calls that wait take; nothing here waits, and the call returns.
-/// `Refused` is the refusal of the words, and `Memory` want of memory; no output is then created.
+/// `Refused` is the refusal of the words, `SourceFault` names the word whose file can't be read, and `Memory`
+/// is want of memory; no output is then created.
 /// `SinkFault` names the output whose create or append failed, with the accounts up to there.
 pub fn melt<R, H: Host, G: Gate>(
     _rt: &R,
@@ -102,10 +106,12 @@ pub fn melt<R, H: Host, G: Gate>(
     _gate: &G,
 ) -> Status
     // On every host, whatever it tells: no count of faults has risen where all is done, and else the one that the
-    // answer names, with a line that says so; no port was created twice, and none where nothing was played.
+    // answer names, that of loads or of a port, with a line that says so; no port was created twice, and none where
+    // nothing was played.
     ensures counts { CountsRun result (H.state host.old) (H.state host.new) }
     ensures keeps { KeepsHost (H.state host.old) (H.state host.new) }
     ensures untouched { IfRefused result (λ _. CreatesNothing (H.state host.old) (H.state host.new)) }
+    ensures unread { IfSourceFault result (λ _. CreatesNothing (H.state host.old) (H.state host.new)) }
     ensures nothing { IfMemory result (CreatesNothing (H.state host.old) (H.state host.new)) }
 
     // Where it is done each output has its name and all of its bytes, acknowledged, and the accounts are exact.
@@ -113,10 +119,10 @@ pub fn melt<R, H: Host, G: Gate>(
         (port : Port) → port ≢ Text → IsWritten (written reading port) ((H.state host.old).port port) ((H.state host.new).port port))) }
     ensures tally { Meant (texts words.now) (H.state host.old) (λ reading. IfDone result (IsWholeTally reading)) }
 
-    // The words' refusal is answered exactly where they have one, up to memory.
+    // The words' refusal is answered exactly where they have one, up to memory and files that can't be read.
     ensures refused { Meant (texts words.now) (H.state host.old) (λ reading. IfRefused result (λ refusal. reading ≡ Err (read.Refused refusal))) }
     ensures refused_always { Meant (texts words.now) (H.state host.old) (λ reading. (refusal : Refusal) →
-        reading ≡ Err (read.Refused refusal) → (H.state host.new).load_faults ≡ (H.state host.old).load_faults →
+        reading ≡ Err (read.Refused refusal) → ¬ Rose (H.state host.old).load_faults (H.state host.new).load_faults →
         (result ≡ Status.Refused refusal) ⊎ (result ≡ Status.Memory)) }
 
     // A fault comes only where the host failed, and says where.
@@ -131,9 +137,10 @@ pub fn melt<R, H: Host, G: Gate>(
     ensures created { Meant (texts words.now) (H.state host.old) (λ reading. (port : Port) →
         IsCreatedOnce (written reading port) result ((H.state host.old).creates port) ((H.state host.new).creates port)) }
 
-    // The text has got the answer that was asked for, or the line of the run's end; the files were asked for.
+    // The text has got the answer that was asked for, or the line of the run's end; the files were asked for in
+    // order, up to the one that can't be read.
     ensures says { Meant (texts words.now) (H.state host.old) (λ reading. Says reading result (H.state host.old) (H.state host.new)) }
-    ensures asked { IfSome (names_on (texts words.now) (H.state host.old).files) (λ names. AsksFor result names (H.state host.old) (H.state host.new)) }
+    ensures asked { IfSome (loads_on (texts words.now) (H.state host.old).files) (λ loads. AsksFor result loads (H.state host.old) (H.state host.new)) }
 {
     run(alloc, words, host)
 }

@@ -40,6 +40,8 @@ pub enum Status {
     Done(Tally),
     /// The words are refused; no output was created.
     Refused(Refusal),
+    /// The file that the word at this place names can't be read; no output was created.
+    SourceFault(u32),
     /// A port could not be created or written.
     SinkFault(Port, Tally),
     /// Memory was wanting.
@@ -55,6 +57,7 @@ impl Status {
         match self {
             Status::Done(_) => 0,
             Status::Refused(_) => 1,
+            Status::SourceFault(_) => 2,
             Status::SinkFault(..) => 3,
             Status::Memory => 4,
         }

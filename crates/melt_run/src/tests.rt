@@ -1,7 +1,8 @@
 //! Worked compositions, and every call of a host failing in turn.
 
 use super::*;
-use mlt_base::{NumFault, Port};
+use crate::line::fault_line;
+use mlt_base::{NumFault, Port, PpmFault};
 use mlt_host::disk_in_memory::MemDisk;
 use mlt_host::{DiskHost, MemHost};
 use mlt_tree::{Cause, Refusal};
@@ -261,6 +262,120 @@ fn plays_prints_and_refuses(rt: HostRuntime) -> Result<(), Fail> {
         let answer = melt(&(), alloc, words.as_slice(), &mut host, &Free);
         assert_eq!(rt; answer, status, "{line}");
         assert_eq!(rt; host.bytes_of(Port::Video), video);
+        assert_eq!(rt; host.bytes_of(Port::Text), text.as_bytes());
+    }
+    Ok(())
+}
+
+/// A host with pictures: of one pixel, of two, and one whose last byte is wanting.
+fn with_pictures(alloc: Global) -> Result<MemHost, AllocError> {
+    let mut host = MemHost::new(alloc);
+    host.add_file("p.ppm", b"P6 1 1 255\n\x0a\x14\x1e")?;
+    host.add_file("x", b"P6 1 1 255\n\x0a\x14\x1e")?;
+    host.add_file("w.ppm", b"P6 2 1 255\n\x00\x00\x00\xff\x80\x01")?;
+    host.add_file("short.ppm", b"P6 1 1 255\n\x0a\x14")?;
+    Ok(host)
+}
+
+#[test]
+fn plays_pictures(rt: HostRuntime) -> Result<(), Fail> {
+    let alloc = rt.alloc();
+    // The words, how they end, what Video has, and what a person reads.
+    let rows: [(&str, Status, &[u8], &str); 9] = [
+        (
+            "-profile 1x1@25/1 -consumer raw:v p.ppm out=0",
+            Status::Done(tally(1)),
+            &[10, 20, 30],
+            "",
+        ),
+        (
+            "-profile 2x1@25/1 -consumer raw:v p.ppm out=0",
+            Status::Done(tally(1)),
+            &[10, 20, 30, 0, 0, 0],
+            "",
+        ),
+        (
+            "-profile 2x1@25/1 -consumer raw:v pix=rgba p.ppm out=0",
+            Status::Done(tally(1)),
+            &[10, 20, 30, 255, 0, 0, 0, 0],
+            "",
+        ),
+        (
+            "-profile 2x1@25/1 -consumer raw:v pix=rgba ppm:x out=0",
+            Status::Done(tally(1)),
+            &[10, 20, 30, 255, 0, 0, 0, 0],
+            "",
+        ),
+        (
+            "-profile 1x1@25/1 -consumer raw:v w.ppm out=0",
+            Status::Done(tally(1)),
+            &[128, 64, 1],
+            "",
+        ),
+        (
+            "-profile 1x1@25/1 -consumer raw:v p.ppm out=0 colour:red out=0 -blank 0 p.ppm out=0",
+            Status::Done(tally_with(4, 3)),
+            &[10, 20, 30, 255, 0, 0, 0, 0, 0, 10, 20, 30],
+            "",
+        ),
+        (
+            "-profile 1x1@25/1 -consumer raw:v short.ppm out=0",
+            refusal(4, Cause::BadPicture(PpmFault::Short(2, 3))),
+            &[],
+            "melt: word 4: bad picture\n",
+        ),
+        (
+            "-profile 1x1@25/1 -consumer raw:v no.ppm",
+            Status::SourceFault(4),
+            &[],
+            "melt: word 4: cannot read\n",
+        ),
+        (
+            "-profile 1x1@25/1 -consumer raw:v p.ppm out=0 ppm:no -remove -remove -remove",
+            Status::SourceFault(6),
+            &[],
+            "melt: word 6: cannot read\n",
+        ),
+    ];
+    for (line, status, video, text) in rows {
+        let words = split(alloc, line)?;
+        let mut host = with_pictures(alloc)?;
+        let answer = melt(&(), alloc, words.as_slice(), &mut host, &Free);
+        assert_eq!(rt; answer, status, "{line}");
+        assert_eq!(rt; host.bytes_of(Port::Video), video);
+        assert_eq!(rt; host.bytes_of(Port::Text), text.as_bytes());
+    }
+    assert_eq!(rt; Status::SourceFault(4).code(), 2);
+    let too_large = refusal(4, Cause::FileTooLarge { limit: 268435456 });
+    let line = fault_line(&too_large);
+    let text = "melt: word 4: file longer than 268435456 bytes\n";
+    assert_eq!(rt; line.as_slice(), text.as_bytes());
+    Ok(())
+}
+
+#[test]
+fn loads_a_file_for_each_word(rt: HostRuntime) -> Result<(), Fail> {
+    let alloc = rt.alloc();
+    let words = split(
+        alloc,
+        "-profile 1x1@25/1 -consumer raw:v p.ppm out=0 p.ppm out=0",
+    )?;
+    // The call that fails: each of the two loads, and then the create.
+    let rows: [(u64, Status, &str); 3] = [
+        (0, Status::SourceFault(4), "melt: word 4: cannot read\n"),
+        (1, Status::SourceFault(6), "melt: word 6: cannot read\n"),
+        (
+            2,
+            Status::SinkFault(Port::Video, tally(0)),
+            "melt: cannot write video\n",
+        ),
+    ];
+    for (call, status, text) in rows {
+        let mut host = with_pictures(alloc)?;
+        host.fail_at(call, 0)?;
+        let answer = melt(&(), alloc, words.as_slice(), &mut host, &Free);
+        assert_eq!(rt; answer, status, "call {call}");
+        assert_eq!(rt; host.name_of(Port::Video), "");
         assert_eq!(rt; host.bytes_of(Port::Text), text.as_bytes());
     }
     Ok(())

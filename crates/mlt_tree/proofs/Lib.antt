@@ -4,10 +4,12 @@ pub mod Counts
 pub mod Determined
 mod Divided
 mod EditRows
+mod FilterRows
 pub mod FitsTree
 pub mod Kept
 mod LevelRows
 mod LoadRows
+mod LoadedRows
 mod MeaningRows
 mod Options
 pub mod Past

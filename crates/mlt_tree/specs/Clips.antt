@@ -1,5 +1,5 @@
 -- Producers: what a word has made, and the clip of it at the track's end.
-use Rattle.std.specs.Prelude.{ℕ, ◌+◌, ◌-◌, ◌&&◌, nat_le, nat_lt, max, min, if◌then◌else◌, [], ◌∷◌, ◌++◌, length, Option, None, Some, unwrap_or, Result, Ok}
+use Rattle.std.specs.Prelude.{ℕ, ◌+◌, ◌-◌, ◌&&◌, nat_le, nat_lt, max, min, if◌then◌else◌, List, [], ◌∷◌, ◌++◌, length, Option, None, Some, unwrap_or, Result, Ok}
 use Rattle.mlt_base.specs.Colour.{Pixel, colour_of}
 use Rattle.mlt_base.specs.declared.limits.TheConstants as limit
 use Rattle.mlt_base.specs.Profile.{Measures}
@@ -15,8 +15,8 @@ use Rattle.mlt_tree.specs.Edits as edit
 use Rattle.mlt_tree.specs.Edits.{clip}
 use Rattle.mlt_tree.specs.Props.{number, moment, moment_or_first}
 use Rattle.mlt_tree.specs.Refusing.{refuse, or_refuse, at_group}
-use Rattle.mlt_tree.specs.Services.{Named, colour_name}
-use Rattle.mlt_tree.specs.Show.{Source, Plain, kind_of}
+use Rattle.mlt_tree.specs.Services.{Named, producer_of, colour_name}
+use Rattle.mlt_tree.specs.Show.{Source, Plain, Drawn, kind_of}
 use Rattle.mlt_tree.specs.Units.{source_unit}
 
 -- the first and last frame of a cut
@@ -36,13 +36,15 @@ cut_of place length first out =
 -- what its value names
 pub data Origin : Type 0 where
   OfColour : Pixel → Origin
+  -- the file of a picture
+  OfPicture : (name : List ℕ) → Origin
 
 -- the value of a service
 abbrev pub origin_of : ℕ → Named → Result Origin Refusal
 origin_of place named = by named.producer where
   by : Producer → Result Origin Refusal
   by Colour = or_refuse place cause.BadValue (colour_of (colour_name named.arg)) >>= λ pixel. Ok (OfColour pixel)
-  by Picture = refuse place cause.Unsupported
+  by Picture = Ok (OfPicture named.arg)
   by Sound = refuse place cause.Unsupported
   by Melt = refuse place cause.Unsupported
 
@@ -59,6 +61,14 @@ wanted_by s g = do
   length ← number row.LENGTH (props_of s g)
   Ok (record { first = first; last = last; length = length })
 
+-- the service, its value, and the range
+unfoldable pub asked_for : State → Group → Result (Origin × Wanted) Refusal
+asked_for s g = do
+  named ← or_refuse g.place cause.UnknownService (producer_of g.arg)
+  from ← origin_of g.place named
+  asked ← wanted_by s g
+  Ok (from, asked)
+
 -- ---- what it makes
 
 -- the unit that is cut from, with how many frames it has, among all that was made so far
@@ -70,6 +80,7 @@ pub record Product : Type 0 where
 -- the length of a source by itself
 abbrev pub own_length : Measures → Source → ℕ
 own_length profile (Plain pixel) = limit.OWN_LENGTH
+own_length profile (Drawn picture) = limit.OWN_LENGTH
 
 -- the length of a source: what is asked for, else its own, or as far as the clip goes where that is more
 abbrev pub length_by : ℕ → Option ℕ → Option ℕ → ℕ

@@ -4,26 +4,25 @@ use Rattle.mlt_tree.specs.declared.group.Group.{Group}
 use Rattle.mlt_tree.specs.declared.group.GroupKind.{GroupKind}
 use Rattle.mlt_tree.specs.declared.group.GroupKind.TheVariants as kind
 use Rattle.mlt_tree.specs.declared.refusal.Cause.TheVariants as cause
-use Rattle.mlt_tree.specs.Clips.{Origin, OfColour, Wanted, Product, origin_of, wanted_by, source_made, clip_added}
+use Rattle.mlt_tree.specs.Clips.{Origin, OfColour, OfPicture, Wanted, Product, asked_for, source_made, clip_added}
 use Rattle.mlt_tree.specs.Composition.{State, start, blank, join, remove, repeat, split, swap, consumer, inherit}
+use Rattle.mlt_tree.specs.Loaded.{picture_made}
 use Rattle.mlt_tree.specs.Loading.{Files, Read, done, plainly, through, ◌>>=◌}
-use Rattle.mlt_tree.specs.Refusing.{refuse, or_refuse}
+use Rattle.mlt_tree.specs.Refusing.{refuse}
 use Rattle.mlt_tree.specs.Sealing.{framed, seal}
-use Rattle.mlt_tree.specs.Services.{producer_of}
 use Rattle.mlt_tree.specs.Show.{Show, Plain}
 
 -- what a producer makes; only files are looked up
 abbrev pub product_of : Files → State → Group → Origin → Wanted → Read Product
 product_of files s g (OfColour pixel) asked = done (source_made s.profile s.made (Plain pixel) asked)
+product_of files s g (OfPicture name) asked = picture_made files s.profile s.made g.place name asked
 
--- a producer: the service, its value, the range, what it makes, and the clip of that
+-- a producer: what its word asks for, what it makes of that, and the clip of it
 unfoldable pub producer : Files → State → Group → Read State
 producer files s g = do
-  named ← plainly (or_refuse g.place cause.UnknownService (producer_of g.arg))
-  from ← plainly (origin_of g.place named)
-  asked ← plainly (wanted_by s g)
-  made ← product_of files s g from asked
-  plainly (clip_added s g made asked)
+  asked ← plainly (asked_for s g)
+  made ← product_of files s g asked.0 asked.1
+  plainly (clip_added s g made asked.1)
 
 -- what a group does; an option that is not built is refused before
 unfoldable pub effect : Files → State → Group → Read State

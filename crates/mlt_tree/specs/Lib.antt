@@ -3,8 +3,10 @@ pub mod Clips
 pub mod Composing
 pub mod Composition
 pub mod Edits
+pub mod Filters
 pub mod GroupWords
 pub mod Lines
+pub mod Loaded
 pub mod Loading
 pub mod Meaning
 pub mod Medium

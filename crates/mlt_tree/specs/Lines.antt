@@ -5,7 +5,7 @@ use Rattle.std.specs.List.{flat_map}
 use Rattle.mlt_base.specs.declared.port.Port.{Port}
 use Rattle.mlt_base.specs.declared.port.Port.TheVariants.{Video, Audio, Script, Text}
 use Rattle.mlt_tree.specs.declared.refusal.Cause.{Cause}
-use Rattle.mlt_tree.specs.declared.refusal.Cause.TheVariants.{UnknownOption, Unsupported, MissingArgument, StrayProperty, UnknownService, BadValue, BadNumber, OutOfRange, TooFew, BadClip, BadSplit, BadRange, NoProducer, TooMany, TooLong, TooDeep, TooLarge}
+use Rattle.mlt_tree.specs.declared.refusal.Cause.TheVariants.{UnknownOption, Unsupported, MissingArgument, StrayProperty, UnknownService, BadValue, BadNumber, OutOfRange, TooFew, BadClip, BadSplit, BadRange, NoProducer, TooMany, TooLong, TooDeep, TooLarge, FileTooLarge, BadPicture}
 use Rattle.mlt_tree.specs.declared.refusal.Refusal.{Refusal}
 
 -- a piece of a line: words, or a number in decimal digits
@@ -45,6 +45,8 @@ cause_pieces (TooMany limit) = Words (codes "more than ") ∷ Count limit ∷ []
 cause_pieces (TooLong frames) = Count frames ∷ Words (codes " frames are too many") ∷ []
 cause_pieces (TooDeep depth) = Words (codes "nested ") ∷ Count depth ∷ Words (codes " deep") ∷ []
 cause_pieces (TooLarge bytes) = Count bytes ∷ Words (codes " bytes are too many") ∷ []
+cause_pieces (FileTooLarge limit) = Words (codes "file longer than ") ∷ Count limit ∷ Words (codes " bytes") ∷ []
+cause_pieces (BadPicture fault) = words (codes "bad picture")
 
 -- the place within the file that a word names, where there is one
 abbrev pub inner_pieces : Option ℕ → List Piece
@@ -56,6 +58,10 @@ word_pieces place = Words (codes "melt: word ") ∷ Count place ∷ Words (codes
 
 abbrev pub refusal_line : Refusal → List ℕ
 refusal_line r = text_of (word_pieces r.word) ++ (text_of (inner_pieces r.inner) ++ (text_of (cause_pieces r.cause) ++ codes "\n"))
+
+-- a file that the word at a place names can't be read
+abbrev pub source_line : ℕ → List ℕ
+source_line place = text_of (word_pieces place) ++ codes "cannot read\n"
 
 abbrev pub port_text : Port → List ℕ
 port_text Video = codes "video"

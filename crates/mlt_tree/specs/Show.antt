@@ -1,11 +1,15 @@
 -- What is played, and the bytes that it gives.
 use Rattle.std.specs.Prelude.{ℕ, ◌+◌, ◌-◌, ◌*◌, zero, suc, List, [], ◌++◌, length, Option, None, Some, unwrap_or, slice_get}
 use Rattle.mlt_base.specs.Colour.{Pixel}
+use Rattle.mlt_base.specs.Fitting.{fitted}
+use Rattle.mlt_base.specs.Mixing.{table}
 use Rattle.mlt_base.specs.Profile.{Measures}
+use Rattle.mlt_base.specs.Still.{Picture}
 use Rattle.mlt_base.specs.declared.port.Port.{Port}
 use Rattle.mlt_base.specs.declared.port.Port.TheVariants.{Video, Audio, Script, Text}
 use Rattle.mlt_tree.specs.declared.tree.SourceKind.{SourceKind}
-use Rattle.mlt_tree.specs.declared.tree.SourceKind.TheVariants.{Colour}
+use Rattle.mlt_tree.specs.declared.tree.SourceKind.TheVariants.{Colour, Still}
+use Rattle.mlt_tree.specs.Filters.{picture_filter}
 use Rattle.mlt_tree.specs.Meaning.{Matter, mean}
 use Rattle.mlt_tree.specs.Medium.{Pictures}
 use Rattle.mlt_tree.specs.Needs.{needs}
@@ -14,11 +18,15 @@ use Rattle.mlt_tree.specs.Tree.{Tree}
 
 -- what a source holds
 pub data Source : Type 0 where
+  -- one colour
   Plain : Pixel → Source
+  -- a picture, of any size
+  Drawn : Picture → Source
 
 -- the kind of a source
 abbrev pub kind_of : Source → SourceKind
 kind_of (Plain pixel) = Colour
+kind_of (Drawn picture) = Still
 
 -- how the pixels of a picture are written
 pub data Pix : Type 0 where
@@ -65,20 +73,21 @@ pub record Show : Type 0 where
 abbrev pub pixels_of : Measures → ℕ
 pixels_of profile = profile.width * profile.height
 
--- the picture of a source in a profile
+-- the picture of a source in a profile: one that was drawn is fitted into the frame
 abbrev pub source_picture : Measures → Source → List ℕ
 source_picture profile (Plain p) = plain (pixels_of profile) p
+source_picture profile (Drawn picture) = table (pixels_of profile * 4) (fitted picture profile.width profile.height)
 
 -- the picture of a source by its number, the same at every position; nothing is drawn for a missing one
 abbrev pub picture_of : Measures → Option Source → List ℕ
 picture_of profile None = clear (pixels_of profile)
 picture_of profile (Some source) = source_picture profile source
 
--- what pictures are made of. Filters and merges come with their formulas: no show that is played has one yet
+-- what pictures are made of. Merges come with their formulas: no show that is played has one yet
 abbrev pub pictures : Show → Matter (List ℕ)
 pictures show = record {
   source = λ source n. picture_of show.profile (slice_get show.sources source);
-  filter = λ step picture. picture;
+  filter = λ step picture. picture_filter step show.profile.width picture;
   merge = λ step under picture. picture;
 }
 

@@ -24,18 +24,18 @@ use Rattle.mlt_tree.specs.Tree.{Tree, Parts, Tracks, Src, Blank, Part, Seq, With
 abbrev pub is_later_prop : Prop → Bool
 is_later_prop p = bytes_eq p.name (codes "audio") || bytes_eq p.name (codes "channels") || bytes_eq p.name (codes "format")
 
-abbrev pub is_colour : Option Named → Bool
-is_colour None = true
-is_colour (Some named) = by named.producer where
+abbrev pub is_picture : Option Named → Bool
+is_picture None = true
+is_picture (Some named) = by named.producer where
   by : Producer → Bool
   by Colour = true
-  by Picture = false
+  by Picture = true
   by Sound = false
   by Melt = false
 
--- a producer of a colour; one of an unknown service is refused as that
+-- a producer of a picture; one of an unknown service is refused as that
 abbrev pub producer_built : Group → Result (Unit {0}) Refusal
-producer_built g = if is_colour (producer_of g.arg) then Ok tt else refuse g.place cause.Unsupported
+producer_built g = if is_picture (producer_of g.arg) then Ok tt else refuse g.place cause.Unsupported
 
 abbrev pub refuse_prop : Option Prop → Result (Unit {0}) Refusal
 refuse_prop None = Ok tt

@@ -11,6 +11,7 @@ pub mod entry;
 pub mod filter;
 pub mod group;
 pub mod laws;
+pub mod limits;
 pub mod lists;
 pub mod merge;
 pub mod node;

@@ -2,10 +2,10 @@
 
 ghost use Rattle.std.specs.Prelude.{◌≡◌};
 ghost use Rattle.mlt_base.specs.declared.refusal.Try.TheVariants.{Fault};
-ghost use Rattle.mlt_tree.specs.declared.refusal.Cause.TheVariants.{BadNumber as BadNumberOf};
+ghost use Rattle.mlt_tree.specs.declared.refusal.Cause.TheVariants.{BadNumber as BadNumberOf, BadPicture as BadPictureOf};
 ghost use Rattle.mlt_tree.specs.Refusing.{refusal_at, edit_cause, word_cause};
 
-use mlt_base::{NumFault, PlayFault, Try, WordCause, WordFault};
+use mlt_base::{NumFault, PlayFault, PpmFault, Try, WordCause, WordFault};
 
 /// The cause of a refusal, with its numbers. `specs/Lines.antt` has the text of each.
 #[derive(Clone, Copy, Debug, PartialEq, Eq)]
@@ -44,6 +44,10 @@ pub enum Cause {
     TooDeep { depth: u32 },
     /// More bytes than a run holds.
     TooLarge { bytes: u64 },
+    /// A file of more bytes than may be loaded.
+    FileTooLarge { limit: u64 },
+    /// A file that is no picture.
+    BadPicture(PpmFault),
 }
 
 impl From<NumFault> for Cause {
@@ -51,6 +55,14 @@ impl From<NumFault> for Cause {
 
     fn from(fault: NumFault) -> Cause {
         Cause::BadNumber(fault)
+    }
+}
+
+impl From<PpmFault> for Cause {
+    ghost from_gives = { λ fault cause. cause ≡ BadPictureOf fault };
+
+    fn from(fault: PpmFault) -> Cause {
+        Cause::BadPicture(fault)
     }
 }
 

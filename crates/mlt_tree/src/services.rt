@@ -143,6 +143,14 @@ pub const PROPERTIES: &[(&str, &[Property])] = &[
         ],
     ),
     (
+        "ppm",
+        &[
+            Property::Moment(IN),
+            Property::Moment(OUT),
+            Property::Number(LENGTH),
+        ],
+    ),
+    (
         "raw",
         &[
             Property::Choice(PIX),

@@ -1,25 +1,31 @@
-use Rattle.std.proofs.Common.{Err, ap, sym, ◌∙◌, subst}
-use Rattle.mlt_tree.specs.Composing.{effect}
-use Rattle.mlt_tree.specs.Loading.{through}
+use Rattle.std.proofs.Common.{Ok, refl, ap, sym, ◌∙◌, subst}
 use Rattle.std.proofs.lemmas.Result.{err_from_is_err_and}
 use Rattle.mlt_base.specs.ProfileView.{measures_of}
-use Rattle.melt_build.specs.Reads.{ReadGives}
+use Rattle.mlt_tree.specs.Composing.{effect}
+use Rattle.mlt_tree.specs.Loading.{through}
+use Rattle.melt_build.specs.declared.fault.BuildFault.TheVariants.{Refused}
+use Rattle.melt_build.specs.Loads.{Tells, Fails, Goes}
 use Rattle.melt_build.specs.State.{state_view}
+use Rattle.melt_build.proofs.Going.{asks_none}
 use Rattle.melt_build.proofs.Looked.{composed_refused, composed_framed}
 use Rattle.melt_build.proofs.composition.composed.Goals as goal
 
-pub returns-in_err-profile-clause-value : goal.returns-in_err-profile-clause-value
-returns-in_err-profile-clause-value c =
+pub returns-in_err-profile-clause-goes : goal.returns-in_err-profile-clause-goes
+returns-in_err-profile-clause-goes g c =
+    let a = g.H.Host.state c.args.host.now in
     let p = err_from_is_err_and c.from_residual.result c.from_residual.ensures.1 in
-    rw (p.1, p.2) (λ files. composed_refused files c.args.count c.args.groups.now c.in_err-profile.field-0.0 c.in_err-profile.ensures)
+    rw (p.1, p.2) (λ files tells. subst (λ step. Fails (Refused c.in_err-profile.field-0.0) step a a) (sym (composed_refused files c.args.count c.args.groups.now c.in_err-profile.field-0.0 c.in_err-profile.ensures)) (refl, asks_none a a refl))
 
-pub returns-in-Ok-clause-value : goal.returns-in-Ok-clause-value
-returns-in-Ok-clause-value c = λ files.
+pub returns-in-Ok-clause-goes : goal.returns-in-Ok-clause-goes
+returns-in-Ok-clause-goes g c = λ files tells.
+    let a = g.H.Host.state c.args.host.now in let b = g.H.Host.state c.effects.new.host in
     let gs = c.args.groups.now in
-    composed_framed files c.args.count gs (measures_of c.in_ok-profile.profile) c.in_ok-profile.ensures ∙ ap (λ s. through (effect files) s gs) (sym c.in_ok-state.ensures.value) ∙ c.in-Ok.ensures.value files
+    let is = composed_framed files c.args.count gs (measures_of c.in_ok-profile.profile) c.in_ok-profile.ensures ∙ ap (λ s. through (effect files) s gs) (sym c.in_ok-state.ensures.value) in
+    subst (λ step. Goes (λ done. state_view c.effects.new.self) (Ok c.in-Ok.field-0) step a b) (sym is) (c.in-Ok.ensures.goes files (subst (λ step. Tells files step a) is tells))
 
-pub returns-in-Err-clause-value : goal.returns-in-Err-clause-value
-returns-in-Err-clause-value c = λ files.
+pub returns-in-Err-clause-goes : goal.returns-in-Err-clause-goes
+returns-in-Err-clause-goes g c = λ files tells.
+    let a = g.H.Host.state c.args.host.now in let b = g.H.Host.state c.effects.new.host in
     let gs = c.args.groups.now in
-    let first = composed_framed files c.args.count gs (measures_of c.in_ok-profile.profile) c.in_ok-profile.ensures ∙ ap (λ s. through (effect files) s gs) (sym c.in_ok-state.ensures.value) in
-    subst (ReadGives state_view (Err c.in-Err.refusal)) (sym first) (c.in-Err.ensures.value files)
+    let is = composed_framed files c.args.count gs (measures_of c.in_ok-profile.profile) c.in_ok-profile.ensures ∙ ap (λ s. through (effect files) s gs) (sym c.in_ok-state.ensures.value) in
+    subst (λ step. Fails c.in-Err.fault step a b) (sym is) (c.in-Err.ensures.goes files (subst (λ step. Tells files step a) is tells))

@@ -2,10 +2,7 @@ use Rattle.std.proofs.Common.{◌≡◌, length, drop, sym, ap, ◌∙◌, arith
 use Rattle.std.specs.Option.{option_to_list}
 use Rattle.std.proofs.lemmas.List.{take_at}
 use Rattle.mlt_graph.specs.Sealed.{tree}
-use Rattle.mlt_graph.specs.Show.{meant, pix_of}
-use Rattle.mlt_base.specs.Picture.{plain}
-use Rattle.mlt_tree.specs.Show.{packed}
-use Rattle.mlt_image.specs.View.{pixel}
+use Rattle.mlt_graph.specs.Show.{meant}
 use Rattle.melt_run.specs.Pixels.{picture_bytes}
 use Rattle.melt_run.proofs.Drawn.{drawn}
 use Rattle.melt_run.proofs.Named.{needs_named}
@@ -14,15 +11,12 @@ use Rattle.melt_run.proofs.draw.draw.Goals as goal
 pub returns-clause-picture : goal.returns-clause-picture
 returns-clause-picture c =
     let show = c.args.show.now in
-    let first = c.paint.new.bytes in
-    let count = c.pixels-count.result in
-    let colour = pixel c.colour_of.result in
+    let first = c.write_seen.new.bytes in
     let bytes : length first ≡ c.picture_bytes-bytes.result =
-    let long = c.paint.auto.bytes in omega (arith, c.requires.length, length-take c.picture_bytes-bytes.result c.args.buffer.now, long)
+    let long = c.write_seen.auto.bytes in omega (arith, c.requires.length, length-take c.picture_bytes-bytes.result c.args.buffer.now, long)
     in
     let front = take_at first (drop c.picture_bytes-bytes.result c.args.buffer.now) (picture_bytes show) (bytes ∙ c.picture_bytes-bytes.ensures.value) in
-    let picture = drawn (meant show c.args.table.now) c.args.at _ colour c.requires.plain c.source_at-source.ensures c.colour_of.ensures in
-    front ∙ c.paint.ensures ∙ ap (λ n. packed (pix_of show.output.pix) (plain n colour)) c.pixels-count.ensures.value ∙ sym picture
+    front ∙ c.write_seen.ensures.picture ∙ sym (drawn (meant show c.args.table.now) c.args.at _ c.requires.plain c.source_at-source.ensures)
 
 pub returns-clause-loads : goal.returns-clause-loads
 returns-clause-loads c =

@@ -8,6 +8,7 @@ use Rattle.melt_run.specs.declared.status.Tally.{Tally}
 use Rattle.melt_run.specs.declared.status.Status.TheVariants.{Done, SinkFault}
 use Rattle.melt_run.proofs.Fronted.{grows, cuts}
 use Rattle.melt_run.proofs.Hosts.{only_both}
+use Rattle.melt_run.proofs.Lent.{lends_both}
 use Rattle.melt_run.proofs.Played.{plays_done, plays_uncreated, plays_cut, keeps_else, same_faults, video_fault}
 use Rattle.melt_run.proofs.Tallies.{stopped_is, full_is, loads_more}
 use Rattle.melt_run.proofs.play.play_frames.Goals as goal
@@ -49,7 +50,8 @@ loop-done-preserved g c =
     let show = meant c.args.show.now c.args.table.now in let done = c.loop-done.done in
     record {
       home = c.play_frame.ensures.home ∙ c.loop-done.invariant.home;
-      lent = c.play_frame.ensures.lent ∙ c.loop-done.invariant.lent;
+      lent = lends_both _ _ _ c.loop-done.invariant.lent c.play_frame.ensures.lent;
+      space = c.play_frame.ensures.space ∙ c.loop-done.invariant.space;
       so_far = grows show show.output.video done Video ((g.H.Host.state c.loop-done.host).port Video) ((g.H.Host.state c.play_frame.new.host).port Video) c.loop-done.invariant.so_far c.in-Ok-play_frame.ensures.ok;
       exact = loads_more show done c.loop-done.loads c.in-Ok-play_frame.more c.loop-done.invariant.exact c.in-Ok-play_frame.ensures.loads.0;
       few = omega (arith, c.loop-done.invariant.few, c.in-Ok-play_frame.ensures.loads.1);

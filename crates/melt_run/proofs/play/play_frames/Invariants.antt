@@ -1,12 +1,13 @@
-use Rattle.std.proofs.Common.{◌≡◌, ◌≤◌, IfSome}
+use Rattle.std.proofs.Common.{◌≡◌, ◌≤◌, length, IfSome}
 use Rattle.mlt_base.specs.declared.port.Port.TheVariants.{Video}
 use Rattle.mlt_host.specs.Count.{next}
 use Rattle.mlt_host.specs.Host.{OnlyPort}
 use Rattle.mlt_pool.specs.Class.{class_of}
-use Rattle.mlt_pool.specs.Counts.{home_of, all_lent}
+use Rattle.mlt_pool.specs.Counts.{home_of}
 use Rattle.mlt_graph.specs.Piece.{piece_of}
 use Rattle.mlt_graph.specs.Show.{meant}
 use Rattle.mlt_tree.specs.Show.{loads_to}
+use Rattle.melt_run.specs.Lending.{LendsAlike}
 use Rattle.melt_run.specs.Play.{fronted}
 use Rattle.melt_run.proofs.play.play_frames.Given as goal
 
@@ -15,7 +16,8 @@ use Rattle.melt_run.proofs.play.play_frames.Given as goal
 abbrev pub invariant-loop-done : goal.invariant-loop-done
 invariant-loop-done g l = record {
   home : home_of l.pool (class_of (piece_of l.show.output l.show.profile)) ≡ home_of l.fn.pool (class_of (piece_of l.show.output l.show.profile));
-  lent : all_lent l.pool ≡ all_lent l.fn.pool;
+  lent : LendsAlike l.fn.pool l.pool;
+  space : length l.space ≡ length l.fn.space;
   so_far : IfSome ((g.H.Host.state l.host).port Video) (λ port. port ≡ fronted (meant l.show l.table) Video l.show.output.video l.done);
   exact : l.loads ≡ loads_to (meant l.show l.table) l.done;
   few : l.loads ≤ l.done;

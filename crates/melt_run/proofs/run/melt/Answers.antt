@@ -22,7 +22,7 @@ returns-clause-refused g c =
 pub returns-clause-refused_always : goal.returns-clause-refused_always
 returns-clause-refused_always g c =
     let old = g.H.Host.state c.args.host.now in let new = g.H.Host.state c.run.new.host in
-    IfSome_then (reading_on (texts c.args.words.now) old.files) c.run.ensures.ends (λ reading ends. refused_always_is reading c.run.result old new ends)
+    IfSome_then (reading_on (texts c.args.words.now) old.files) c.run.ensures.ends (λ reading ends. refused_always_is reading c.run.result old new c.run.ensures.counts.loads ends)
 
 pub returns-clause-fault : goal.returns-clause-fault
 returns-clause-fault g c =
@@ -32,7 +32,7 @@ returns-clause-fault g c =
 pub returns-clause-complete : goal.returns-clause-complete
 returns-clause-complete g c =
     let old = g.H.Host.state c.args.host.now in let new = g.H.Host.state c.run.new.host in
-    IfSome_then (reading_on (texts c.args.words.now) old.files) c.run.ensures.ends (λ reading ends. complete_is reading c.run.result old new ends)
+    IfSome_then (reading_on (texts c.args.words.now) old.files) c.run.ensures.ends (λ reading ends. complete_is reading c.run.result old new c.run.ensures.counts.loads ends)
 
 pub returns-clause-front : goal.returns-clause-front
 returns-clause-front g c =

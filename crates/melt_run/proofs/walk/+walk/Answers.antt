@@ -1,12 +1,9 @@
-use Rattle.std.proofs.Common.{◌≡◌, ◌<◌, ◌+◌, ◌-◌, drop, get_or, map, All, Some, None, rules, arith, sym, ap, ◌∙◌, subst}
-use Rattle.mlt_tree.specs.declared.entry.Entry.{Entry}
+use Rattle.std.proofs.Common.{◌≡◌, ◌+◌, ◌-◌, drop, get_or, map, All, None, rules, arith, sym, ap, ◌∙◌, subst}
 use Rattle.mlt_tree.specs.declared.node.Track.{Track}
-use Rattle.mlt_tree.specs.Edits.{clip_at}
 use Rattle.mlt_tree.specs.Ranges.{IsEntry}
 use Rattle.mlt_tree.specs.Units.{IsEntryBelow, IsTrackBelow, tree_of}
 use Rattle.mlt_graph.specs.Lists.{lists_of}
 use Rattle.mlt_graph.proofs.Trees.{tree_of-step}
-use Rattle.mlt_graph.proofs.ListLemmas.{lists_of-unit}
 use Rattle.melt_run.specs.Found.{shown_of}
 use Rattle.melt_run.specs.Seen.{seen}
 use Rattle.melt_run.proofs.Walked.{found_in, none_found_in, row_list, rows_highest}

@@ -1,0 +1,13 @@
+use Rattle.std.proofs.Common.{rules, ◌≡◌, sym, subst}
+use Rattle.mlt_tree.specs.declared.group.GroupKind.TheVariants as kind
+use Rattle.melt_build.specs.Loads.{Tells, Goes}
+use Rattle.melt_build.specs.State.{state_view}
+use Rattle.melt_build.proofs.Looked.{effect_producer}
+use Rattle.melt_build.proofs.state.State.effect.Goals as goal
+
+pub returns-then-eq-clause-goes : goal.returns-then-eq-clause-goes
+returns-then-eq-clause-goes g c = λ files tells.
+    let a = g.H.Host.state c.args.host.now in let b = g.H.Host.state c.produce.new.host in
+    let producer : c.args.group.now.kind ≡ kind.Producer = search rules in
+    let is = effect_producer files (state_view c.args.self.now) c.args.group.now producer in
+    subst (λ step. Goes (λ done. state_view c.produce.new.self) c.produce.result step a b) (sym is) (c.produce.ensures.goes files (subst (λ step. Tells files step a) is tells))

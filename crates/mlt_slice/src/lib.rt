@@ -1,0 +1,14 @@
+//! Work that is done row by row, and the ways in which the rows of a picture are gone through.
+//!
+//! What is done to a row depends on the row's number and its own bytes alone, so that rows may be worked
+//! in any order. Nothing of this repository stands below; filters and transitions stand above. Start
+//! reading at [`RowWork`], then [`Bands`].
+#![tactic(auto)]
+
+pub mod laws;
+pub mod rows;
+
+pub use rows::{Alone, Bands, RowWork};
+
+#[cfg(test)]
+mod tests;

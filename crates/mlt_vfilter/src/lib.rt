@@ -1,0 +1,26 @@
+//! Filters of pictures: each leaves exactly the bytes that its formula says, in the picture itself.
+//!
+//! A picture is a slice of bytes, four a pixel: red, green, blue and straight alpha, in rows from the top.
+//! No call takes memory and none refuses. The formulas stand in `mlt_tree`, in `specs/Filters`;
+//! `mlt_kernel`, by whose pixels the loops go, and `mlt_slice`, by whose bands the rows go, stand below,
+//! and what evaluates a frame stands above. Start reading at [`apply`], then [`pixels`] and [`rows`].
+#![tactic(auto)]
+
+pub mod brightness;
+pub mod crop;
+pub mod greyscale;
+pub mod invert;
+pub mod mirror;
+pub mod obscure;
+pub mod opacity;
+pub mod pixels;
+pub mod rows;
+pub mod sepia;
+pub mod step;
+pub mod swapchannels;
+pub mod threshold;
+
+pub use step::apply;
+
+#[cfg(test)]
+mod tests;
