@@ -1,0 +1,17 @@
+//! Evaluation of a started frame: from its operations to the bytes that are written.
+//!
+//! Pictures that were fitted are lent and never copied where nothing changes them; all others are made
+//! in the blocks of a rack, so that rendering takes no memory. Frames and their operations come from
+//! `mlt_frame`, sources from `mlt_source`, filters from `mlt_vfilter` and blocks from `mlt_pool`, which
+//! stand below; what plays a show stands above. Start reading at [`Fitted`] and [`Rack`].
+#![tactic(auto)]
+
+pub mod fitted;
+pub mod rack;
+pub mod register;
+
+pub use fitted::Fitted;
+pub use rack::Rack;
+
+#[cfg(test)]
+mod tests;

@@ -1,0 +1,6 @@
+mod Both
+mod Meant
+mod Loaded
+mod Counted
+mod Plain
+mod Walked

@@ -1,0 +1,87 @@
+use Rattle.std.proofs.Common.{◌≤◌, [], length, All, arith, sym, ap, subst, ◌∙◌}
+use Rattle.mlt_frame.specs.Fits.{Fits}
+use Rattle.mlt_frame.specs.Frame.{FrameParts}
+use Rattle.mlt_frame.specs.Loads.{loads}
+use Rattle.mlt_frame.specs.Registers.{regs}
+use Rattle.mlt_tree.specs.Medium.{Pictures, Sounds}
+use Rattle.mlt_tree.specs.Sizes.{need}
+use Rattle.mlt_tree.specs.Sizes.{ops as ops_of}
+use Rattle.mlt_graph.specs.Sealed.{tree}
+use Rattle.mlt_start.specs.Code.{code, or_absent}
+use Rattle.mlt_start.specs.Names.{Names}
+use Rattle.mlt_start.proofs.Counted.{unit-takes, or_absent-few, or_absent-fits, or_absent-named}
+use Rattle.mlt_start.proofs.Loaded.{loads-code}
+use Rattle.mlt_start.proofs.Meant.{regs-code}
+use Rattle.mlt_start.proofs.Plain.{unit-unplanted}
+use Rattle.mlt_start.proofs.Walked.{alone-above}
+use Rattle.mlt_start.proofs.start_frame.start.Goals as goal
+
+pub push_all-requires-clause-some : goal.push_all-requires-clause-some
+push_all-requires-clause-some c =
+    (unit-takes c.args.sealed.now.units c.args.sealed.now.top (omega (arith, c.requires.at))).0
+
+pub push_all-requires-2-clause-some : goal.push_all-requires-2-clause-some
+push_all-requires-2-clause-some c =
+    (unit-takes c.args.sealed.now.units c.args.sealed.now.top (omega (arith, c.requires.at))).0
+
+pub returns-clause-image : goal.returns-clause-image
+returns-clause-image c =
+    let shown = c.args.sealed.now in
+    let n = c.args.at.0 in
+    let is = ap (λ (f : FrameParts). f.image.ops) c.new.ensures ∙ alone-above (or_absent (code Pictures (tree shown) n)) c.args.ops.image c.push_all.new.stack c.requires.empty.0 c.push_all.ensures in
+    λ m. ap (λ os. regs m [] os) is ∙ regs-code Pictures m (tree shown) (unit-unplanted shown.units c.requires.plain_plants shown.top) n
+
+pub returns-clause-sound : goal.returns-clause-sound
+returns-clause-sound c =
+    let shown = c.args.sealed.now in
+    let n = c.args.at.0 in
+    let is = ap (λ (f : FrameParts). f.sound.ops) c.new.ensures ∙ alone-above (or_absent (code Sounds (tree shown) n)) c.args.ops.sound c.push_all-2.new.stack c.requires.empty.1 c.push_all-2.ensures in
+    λ m. ap (λ os. regs m [] os) is ∙ regs-code Sounds m (tree shown) (unit-unplanted shown.units c.requires.plain_plants shown.top) n
+
+pub returns-clause-loads : goal.returns-clause-loads
+returns-clause-loads c =
+    let shown = c.args.sealed.now in
+    let n = c.args.at.0 in
+    let is = ap (λ (f : FrameParts). f.image.ops) c.new.ensures ∙ alone-above (or_absent (code Pictures (tree shown) n)) c.args.ops.image c.push_all.new.stack c.requires.empty.0 c.push_all.ensures in
+    ap loads is ∙ loads-code (tree shown) (unit-unplanted shown.units c.requires.plain_plants shown.top) n
+
+pub returns-clause-fits_image : goal.returns-clause-fits_image
+returns-clause-fits_image c =
+    let shown = c.args.sealed.now in
+    let n = c.args.at.0 in
+    let is = ap (λ (f : FrameParts). f.image.ops) c.new.ensures ∙ alone-above (or_absent (code Pictures (tree shown) n)) c.args.ops.image c.push_all.new.stack c.requires.empty.0 c.push_all.ensures in
+    let some = (unit-takes shown.units shown.top (omega (arith, c.requires.at))).1 in
+    subst (Fits (need (tree shown)) 0) (sym is) (or_absent-fits Pictures (tree shown) n some)
+
+pub returns-clause-names_image : goal.returns-clause-names_image
+returns-clause-names_image c =
+    let shown = c.args.sealed.now in
+    let n = c.args.at.0 in
+    let is = ap (λ (f : FrameParts). f.image.ops) c.new.ensures ∙ alone-above (or_absent (code Pictures (tree shown) n)) c.args.ops.image c.push_all.new.stack c.requires.empty.0 c.push_all.ensures in
+    subst (All (Names Pictures (tree shown))) (sym is) (or_absent-named Pictures (tree shown) n)
+
+pub returns-clause-fits_sound : goal.returns-clause-fits_sound
+returns-clause-fits_sound c =
+    let shown = c.args.sealed.now in
+    let n = c.args.at.0 in
+    let is = ap (λ (f : FrameParts). f.sound.ops) c.new.ensures ∙ alone-above (or_absent (code Sounds (tree shown) n)) c.args.ops.sound c.push_all-2.new.stack c.requires.empty.1 c.push_all-2.ensures in
+    let some = (unit-takes shown.units shown.top (omega (arith, c.requires.at))).1 in
+    subst (Fits (need (tree shown)) 0) (sym is) (or_absent-fits Sounds (tree shown) n some)
+
+pub returns-clause-names_sound : goal.returns-clause-names_sound
+returns-clause-names_sound c =
+    let shown = c.args.sealed.now in
+    let n = c.args.at.0 in
+    let is = ap (λ (f : FrameParts). f.sound.ops) c.new.ensures ∙ alone-above (or_absent (code Sounds (tree shown) n)) c.args.ops.sound c.push_all-2.new.stack c.requires.empty.1 c.push_all-2.ensures in
+    subst (All (Names Sounds (tree shown))) (sym is) (or_absent-named Sounds (tree shown) n)
+
+pub returns-clause-few : goal.returns-clause-few
+returns-clause-few c =
+    let shown = c.args.sealed.now in
+    let n = c.args.at.0 in
+    let some = (unit-takes shown.units shown.top (omega (arith, c.requires.at))).0 in
+    let image = ap (λ (f : FrameParts). f.image.ops) c.new.ensures ∙ alone-above (or_absent (code Pictures (tree shown) n)) c.args.ops.image c.push_all.new.stack c.requires.empty.0 c.push_all.ensures in
+    let sound = ap (λ (f : FrameParts). f.sound.ops) c.new.ensures ∙ alone-above (or_absent (code Sounds (tree shown) n)) c.args.ops.sound c.push_all-2.new.stack c.requires.empty.1 c.push_all-2.ensures in (
+      subst (λ os. length os ≤ ops_of (tree shown)) (sym image) (or_absent-few Pictures (tree shown) n some),
+      subst (λ os. length os ≤ ops_of (tree shown)) (sym sound) (or_absent-few Sounds (tree shown) n some),
+    )

@@ -1,0 +1,6 @@
+pub mod Asked
+pub mod Code
+pub mod Found
+pub mod Names
+pub mod Pushed
+pub mod Unplanted

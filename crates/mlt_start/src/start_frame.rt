@@ -1,0 +1,68 @@
+//! Starting a frame.
+
+ghost use Rattle.std.specs.Prelude.{◌≡◌, ◌≤◌, ◌<◌, [], ◌∷◌, List, ℕ, length, All};
+ghost use Rattle.mlt_frame.specs.Fits.{Fits};
+ghost use Rattle.mlt_frame.specs.Loads.{loads};
+ghost use Rattle.mlt_frame.specs.Registers.{regs};
+ghost use Rattle.mlt_frame.specs.Stack.{room};
+ghost use Rattle.mlt_tree.specs.Meaning.{Matter, mean};
+ghost use Rattle.mlt_tree.specs.Medium.{Pictures, Sounds};
+ghost use Rattle.mlt_tree.specs.Needs.{needs};
+ghost use Rattle.mlt_tree.specs.Sizes.{need, ops as ops_of};
+ghost use Rattle.mlt_tree.specs.Tree.{len};
+ghost use Rattle.mlt_graph.specs.Sealed.{tree};
+ghost use Rattle.mlt_start.specs.Asked.{medium_of};
+ghost use Rattle.mlt_start.specs.Code.{code, or_absent};
+ghost use Rattle.mlt_start.specs.Names.{Names};
+ghost use Rattle.mlt_start.specs.Pushed.{IsAbove};
+ghost use Rattle.mlt_start.specs.Unplanted.{HasNoPlant};
+
+use crate::asked::Asked;
+use crate::walk::push_unit;
+use mlt_base::Pos;
+use mlt_frame::{Frame, Op, OpStack, Ops};
+use mlt_graph::Sealed;
+use mlt_pool::Lease;
+
+/// Pushes what a position of what is played has, or that it has nothing.
+fn push_all(sealed: &Sealed, asked: Asked, at: u32, stack: &mut OpStack)
+    requires some { 1 ≤ ops_of (tree sealed.now) }
+    requires room { ops_of (tree sealed.now) ≤ stack.old.spare }
+    ensures { IsAbove (or_absent (code (medium_of asked) (tree sealed.now) at)) stack.old stack.new }
+{
+    if !push_unit(sealed, asked, sealed.top().0 as usize, at, stack) {
+        stack.push_reserved(Op::Absent);
+    }
+}
+
+/// Starts the frame of a position: the operations that make its picture and its sound, and the lease that its
+/// bytes go to. It takes no memory and can't be refused.
+///
+/// Only what shows is pushed: no track that another one covers, no hidden track, and no filter outside its
+/// span. The position is below the length of what is played; each stack is empty, with spare for
+/// [`Sealed::ops`] at least. Nothing is planted on the tracks of what is played.
+pub fn start(sealed: &Sealed, at: Pos, out: Lease, ops: Ops) -> Frame
+    requires at { at.0 < len (tree sealed.now) }
+    requires empty { (ops.image.ops ≡ []) × (ops.sound.ops ≡ []) }
+    requires spare { (ops_of (tree sealed.now) ≤ ops.image.spare) × (ops_of (tree sealed.now) ≤ ops.sound.spare) }
+    requires plain_plants { All (λ node. HasNoPlant node.body) sealed.now.units }
+    ensures at { result.at ≡ at }
+    ensures out { result.out ≡ out }
+    ensures image { (m : Matter (List ℕ)) → regs m [] result.image.ops ≡ mean Pictures m (tree sealed.now) at.0 ∷ [] }
+    ensures sound { (m : Matter (List (List ℕ))) → regs m [] result.sound.ops ≡ mean Sounds m (tree sealed.now) at.0 ∷ [] }
+    ensures loads { loads result.image.ops ≡ needs (tree sealed.now) at.0 }
+    ensures fits_image { Fits (need (tree sealed.now)) 0 result.image.ops }
+    ensures fits_sound { Fits (need (tree sealed.now)) 0 result.sound.ops }
+    ensures few { (length result.image.ops ≤ ops_of (tree sealed.now)) × (length result.sound.ops ≤ ops_of (tree sealed.now)) }
+    ensures room { (room ops.image ≤ room result.image) × (room ops.sound ≤ room result.sound) }
+    ensures names_image { All (Names Pictures (tree sealed.now)) result.image.ops }
+    ensures names_sound { All (Names Sounds (tree sealed.now)) result.sound.ops }
+{
+    let Ops {
+        mut image,
+        mut sound,
+    } = ops;
+    push_all(sealed, Asked::Pictures, at.0, &mut image);
+    push_all(sealed, Asked::Sounds, at.0, &mut sound);
+    Frame::new(at, image, sound, out)
+}
