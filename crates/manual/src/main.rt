@@ -35,6 +35,14 @@ fn row_of(alloc: Global, property: &Property) -> Result<String, AllocError> {
             let name = text_of(&row.name);
             format!(in alloc; "| `{name}` | `{first}` or `{second}` | `{first}` |")
         }
+        Property::Animated(row) => {
+            let (name, default) = (text_of(&row.name), text_of(&row.default));
+            format!(in alloc; "| `{name}` | a number that may change | `{default}` |")
+        }
+        Property::Letters(row) => {
+            let (name, default) = (text_of(&row.name), text_of(&row.default));
+            format!(in alloc; "| `{name}` | four letters of `r`, `g`, `b`, `a` | `{default}` |")
+        }
         Property::Moment(row) => {
             let name = text_of(&row.name);
             format!(in alloc; "| `{name}` | a time |")

@@ -1,4 +1,5 @@
 pub mod Allowed
+mod AttachRows
 mod Bound
 pub mod Counts
 pub mod Determined
@@ -13,8 +14,8 @@ mod LoadedRows
 mod MeaningRows
 mod Options
 pub mod Past
-pub mod PlainTree
 mod Rows
+pub mod StepRanges
 mod Trace
 mod UnitRows
 mod WordRows

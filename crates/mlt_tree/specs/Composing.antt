@@ -4,6 +4,7 @@ use Rattle.mlt_tree.specs.declared.group.Group.{Group}
 use Rattle.mlt_tree.specs.declared.group.GroupKind.{GroupKind}
 use Rattle.mlt_tree.specs.declared.group.GroupKind.TheVariants as kind
 use Rattle.mlt_tree.specs.declared.refusal.Cause.TheVariants as cause
+use Rattle.mlt_tree.specs.Attaching.{attach, attach_clip, attach_track}
 use Rattle.mlt_tree.specs.Clips.{Origin, OfColour, OfPicture, Wanted, Product, asked_for, source_made, clip_added}
 use Rattle.mlt_tree.specs.Composition.{State, start, blank, join, remove, repeat, split, swap, consumer, inherit}
 use Rattle.mlt_tree.specs.Loaded.{picture_made}
@@ -32,10 +33,10 @@ effect files s g = by g.kind where
 
   by : GroupKind → Read State
   by kind.Producer = producer files s g
-  by kind.Attach = later
-  by kind.AttachCut = later
-  by kind.AttachClip = later
-  by kind.AttachTrack = later
+  by kind.Attach = plainly (attach s g)
+  by kind.AttachCut = plainly (attach s g)
+  by kind.AttachClip = plainly (attach_clip s g)
+  by kind.AttachTrack = plainly (attach_track s g)
   by kind.Filter = later
   by kind.Transition = later
   by kind.Blank = plainly (blank s g)

@@ -1,4 +1,5 @@
 pub mod Acting
+pub mod Attaching
 pub mod Clips
 pub mod Composing
 pub mod Composition

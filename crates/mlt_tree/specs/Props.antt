@@ -1,6 +1,9 @@
 -- The value of a property: of several with one name the last counts, and a fault is at its own word.
-use Rattle.std.specs.Prelude.{ℕ, ◌+◌, ◌&&◌, Bool, true, false, nat_le, if◌then◌else◌, ℤ, pos, negsuc, neg_ℤ, List, fold, Option, None, Some, Result, Ok}
+use Rattle.std.specs.Prelude.{ℕ, ◌+◌, ◌==◌, ◌&&◌, Bool, true, false, nat_le, if◌then◌else◌, ℤ, pos, negsuc, neg_ℤ, List, [], ◌∷◌, length, fold, Option, None, Some, Result, Ok}
 use Rattle.std.specs.Str.{bytes_eq}
+use Rattle.mlt_base.specs.Animation.{animation}
+use Rattle.mlt_base.specs.declared.animation.Key.{Key}
+use Rattle.mlt_base.specs.declared.name.Name.{Name}
 use Rattle.mlt_base.specs.Name.{name_of}
 use Rattle.mlt_base.specs.Profile.{Measures}
 use Rattle.mlt_base.specs.Time.{time}
@@ -12,9 +15,11 @@ use Rattle.mlt_tree.specs.declared.row.Count.{Count}
 use Rattle.mlt_tree.specs.declared.row.Number.{Number}
 use Rattle.mlt_tree.specs.declared.row.Distance.{Distance}
 use Rattle.mlt_tree.specs.declared.row.Choice.{Choice}
+use Rattle.mlt_tree.specs.declared.row.Animated.{Animated}
+use Rattle.mlt_tree.specs.declared.row.Letters.{Letters}
 use Rattle.mlt_tree.specs.declared.row.Moment.{Moment}
 use Rattle.mlt_base.specs.Steps.{◌>>=◌}
-use Rattle.mlt_tree.specs.Refusing.{refuse, at_word}
+use Rattle.mlt_tree.specs.Refusing.{refuse, or_refuse, at_word}
 
 -- this property, where it has the name, else the one found before
 abbrev pub later : List ℕ → Option Prop → Prop → Option Prop
@@ -34,6 +39,11 @@ abbrev pub read_given : {A : Type 0} → (ℕ → List ℕ → Result A Refusal)
 read_given read None = Ok None
 read_given read (Some prop) = read prop.place prop.value >>= λ x. Ok (Some x)
 
+-- the same, where a missing property has the default's text
+abbrev pub prop_or : {A : Type 0} → (ℕ → List ℕ → Result A Refusal) → Name → Option Prop → Result A Refusal
+prop_or read default None = read 0 (name_of default)
+prop_or read default (Some prop) = read prop.place prop.value
+
 -- a whole number from low to high, none of them below 0
 abbrev pub within : ℕ → ℕ → ℕ → ℤ → Result ℕ Refusal
 within low high place (pos n) =
@@ -52,6 +62,27 @@ distance_within high place (negsuc n) =
 
 unfoldable pub distant : ℕ → ℕ → List ℕ → Result ℕ Refusal
 distant high place text = at_word place (whole text) >>= distance_within high place
+
+-- a number that may go from key to key
+unfoldable pub keyed : ℕ → List ℕ → Result (List Key) Refusal
+keyed place text = at_word place (animation text)
+
+-- a channel by its letter: `r`, `g`, `b` or `a`
+abbrev pub channel_of : ℕ → Option ℕ
+channel_of letter =
+    if letter == 114 then Some 0 else (if letter == 103 then Some 1 else (if letter == 98 then Some 2 else (if letter == 97 then Some 3 else None)))
+
+abbrev pub channels_of : List ℕ → Option (List ℕ)
+channels_of [] = Some []
+channels_of (letter ∷ letters) = behind (channel_of letter) (channels_of letters) where
+  behind : Option ℕ → Option (List ℕ) → Option (List ℕ)
+  behind None channels = None
+  behind (Some channel) None = None
+  behind (Some channel) (Some channels) = Some (channel ∷ channels)
+
+-- a letter for each of the four channels
+unfoldable pub lettered : ℕ → List ℕ → Result (List ℕ) Refusal
+lettered place text = if length text == 4 then or_refuse place BadValue (channels_of text) else refuse place BadValue
 
 -- a position, in this profile
 unfoldable pub timed : Measures → ℕ → List ℕ → Result ℕ Refusal
@@ -79,6 +110,14 @@ distance row props = read_prop (distant row.high) 0 (last_named (name_of row.nam
 -- whether it is the second of two words
 abbrev pub choice : Choice → List Prop → Result Bool Refusal
 choice row props = read_prop (chosen row) false (last_named (name_of row.name) props)
+
+-- a number that may go from key to key, or its default
+abbrev pub animated : Animated → List Prop → Result (List Key) Refusal
+animated row props = prop_or keyed row.default (last_named (name_of row.name) props)
+
+-- four channels, or their default
+abbrev pub letters : Letters → List Prop → Result (List ℕ) Refusal
+letters row props = prop_or lettered row.default (last_named (name_of row.name) props)
 
 -- a position, where it is given
 abbrev pub moment : Moment → Measures → List Prop → Result (Option ℕ) Refusal

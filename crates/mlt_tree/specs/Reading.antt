@@ -124,7 +124,7 @@ written (Err stop) port = None
 -- the names that are asked for, each with a line end
 abbrev pub query_text : QueryKind → List ℕ
 query_text Producers = listed (map (λ row. row.name) PRODUCERS)
-query_text Filters = listed FILTERS
+query_text Filters = listed (map (λ row. row.name) FILTERS)
 query_text Transitions = listed MERGES
 query_text Consumers = listed CONSUMERS
 query_text Profiles = listed (map (λ row. row.name) PROFILES)

@@ -9,7 +9,8 @@ use Rattle.mlt_base.specs.declared.name.Name.{Name}
 use Rattle.mlt_tree.specs.declared.services.Producer.{Producer}
 use Rattle.mlt_tree.specs.declared.services.Producer.TheVariants.{Colour, Picture, Sound, Melt}
 use Rattle.mlt_tree.specs.declared.services.ProducerRow.{ProducerRow}
-use Rattle.mlt_tree.specs.declared.services.TheConstants.{PRODUCERS, RAW}
+use Rattle.mlt_tree.specs.declared.services.FilterRow.{FilterRow}
+use Rattle.mlt_tree.specs.declared.services.TheConstants.{PRODUCERS, FILTERS, RAW}
 
 -- names, each with a line end
 abbrev pub listed : List Name → List ℕ
@@ -82,3 +83,24 @@ raw_by_id (Some parts) = if bytes_eq parts.0 (name_of RAW) then Some (output_nam
 -- the name of the output of the consumer `raw`, where a word names that
 abbrev pub raw_of : List ℕ → Option (List ℕ)
 raw_of word = if bytes_eq word (name_of RAW) then Some (codes "-") else raw_by_id (split_once 58 word)
+
+-- ---- filters
+
+-- the id of a word, and what stands behind the first `:`, where there is one
+pub record Called : Type 0 where
+  pub id : List ℕ
+  pub value : Option (List ℕ)
+
+abbrev pub called_by : List ℕ → Option (List ℕ × List ℕ) → Called
+called_by word None = record { id = word; value = None }
+called_by word (Some parts) = record { id = parts.0; value = Some parts.1 }
+
+abbrev pub called : List ℕ → Called
+called word = called_by word (split_once 58 word)
+
+abbrev pub is_filter : List ℕ → FilterRow → Bool
+is_filter id row = bytes_eq (name_of row.name) id
+
+-- the filter of an id
+abbrev pub filter_named : List ℕ → Option FilterRow
+filter_named id = find (is_filter id) FILTERS

@@ -83,13 +83,16 @@ abbrev pub picture_of : Measures → Option Source → List ℕ
 picture_of profile None = clear (pixels_of profile)
 picture_of profile (Some source) = source_picture profile source
 
--- what pictures are made of. Merges come with their formulas: no show that is played has one yet
-abbrev pub pictures : Show → Matter (List ℕ)
-pictures show = record {
-  source = λ source n. picture_of show.profile (slice_get show.sources source);
-  filter = λ step picture. picture_filter step show.profile.width picture;
+-- what pictures are made of, in a profile. Merges come with their formulas: no show that is played has one yet
+abbrev pub pictures_of : Measures → List Source → Matter (List ℕ)
+pictures_of profile sources = record {
+  source = λ source n. picture_of profile (slice_get sources source);
+  filter = λ step picture. picture_filter step profile.width picture;
   merge = λ step under picture. picture;
 }
+
+abbrev pub pictures : Show → Matter (List ℕ)
+pictures show = pictures_of show.profile show.sources
 
 -- the picture of a position, nothing counting as transparent black
 abbrev pub picture_at : Show → ℕ → List ℕ

@@ -1,22 +1,21 @@
 -- What is not built yet: each such word is refused at its place, before all else that is said of a composition.
-use Rattle.std.specs.Prelude.{ℕ, ◌≡◌, ◌||◌, Bool, true, false, if◌then◌else◌, List, [], Option, None, Some, Result, Ok, find, All, codes}
+use Rattle.std.specs.Prelude.{ℕ, ◌≡◌, ◌||◌, Bool, true, false, if◌then◌else◌, List, [], Option, None, Some, Result, Ok, find, codes}
 use Rattle.std.specs.Str.{bytes_eq}
-use Rattle.mlt_tree.specs.declared.entry.Entry.{Entry}
-use Rattle.mlt_tree.specs.declared.entry.Entry.TheVariants.{Clip, Gap}
 use Rattle.mlt_tree.specs.declared.group.Group.{Group}
 use Rattle.mlt_tree.specs.declared.group.GroupKind.{GroupKind}
 use Rattle.mlt_tree.specs.declared.group.GroupKind.TheVariants as kind
 use Rattle.mlt_tree.specs.declared.group.Prop.{Prop}
 use Rattle.mlt_tree.specs.declared.node.Body.{Body}
 use Rattle.mlt_tree.specs.declared.node.Body.TheVariants as body
-use Rattle.mlt_tree.specs.declared.node.Node.{Node}
-use Rattle.mlt_tree.specs.declared.node.Track.{Track as TrackOf}
 use Rattle.mlt_tree.specs.declared.refusal.Cause.TheVariants as cause
 use Rattle.mlt_tree.specs.declared.refusal.Refusal.{Refusal}
+use Rattle.mlt_tree.specs.declared.services.FilterKind.{FilterKind}
+use Rattle.mlt_tree.specs.declared.services.FilterKind.TheVariants as filter
+use Rattle.mlt_tree.specs.declared.services.FilterRow.{FilterRow}
 use Rattle.mlt_tree.specs.declared.services.Producer.{Producer}
 use Rattle.mlt_tree.specs.declared.services.Producer.TheVariants.{Colour, Picture, Sound, Melt}
 use Rattle.mlt_tree.specs.Refusing.{refuse}
-use Rattle.mlt_tree.specs.Services.{Named, producer_of, raw_of}
+use Rattle.mlt_tree.specs.Services.{Named, producer_of, raw_of, called, filter_named}
 use Rattle.mlt_tree.specs.Show.{Show}
 use Rattle.mlt_tree.specs.Tree.{Tree, Parts, Tracks, Src, Blank, Part, Seq, With, Rows, End, Then, NoTrack, Track}
 
@@ -37,6 +36,30 @@ is_picture (Some named) = by named.producer where
 abbrev pub producer_built : Group → Result (Unit {0}) Refusal
 producer_built g = if is_picture (producer_of g.arg) then Ok tt else refuse g.place cause.Unsupported
 
+abbrev pub is_picture_filter : FilterKind → Bool
+is_picture_filter filter.Brightness = true
+is_picture_filter filter.Greyscale = true
+is_picture_filter filter.Invert = true
+is_picture_filter filter.Mirror = true
+is_picture_filter filter.Crop = true
+is_picture_filter filter.Threshold = true
+is_picture_filter filter.Sepia = true
+is_picture_filter filter.Obscure = true
+is_picture_filter filter.Opacity = true
+is_picture_filter filter.SwapChannels = true
+is_picture_filter filter.Volume = false
+is_picture_filter filter.Mono = false
+is_picture_filter filter.ChannelCopy = false
+is_picture_filter filter.ChannelSwap = false
+is_picture_filter filter.Silence = false
+
+-- a filter of pictures; one of an unknown service is refused as that
+abbrev pub filter_built : Group → Result (Unit {0}) Refusal
+filter_built g = by (filter_named (called g.arg).id) where
+  by : Option FilterRow → Result (Unit {0}) Refusal
+  by None = Ok tt
+  by (Some row) = if is_picture_filter row.kind then Ok tt else refuse g.place cause.Unsupported
+
 abbrev pub refuse_prop : Option Prop → Result (Unit {0}) Refusal
 refuse_prop None = Ok tt
 refuse_prop (Some p) = refuse p.place cause.Unsupported
@@ -52,10 +75,10 @@ built g = by g.kind where
 
   by : GroupKind → Result (Unit {0}) Refusal
   by kind.Producer = producer_built g
-  by kind.Attach = later
-  by kind.AttachCut = later
-  by kind.AttachClip = later
-  by kind.AttachTrack = later
+  by kind.Attach = filter_built g
+  by kind.AttachCut = filter_built g
+  by kind.AttachClip = filter_built g
+  by kind.AttachTrack = filter_built g
   by kind.Filter = later
   by kind.Transition = later
   by kind.Blank = Ok tt
@@ -96,43 +119,30 @@ built_step done g = built g
 -- ---- what no player plays yet
 
 abbrev mutual
-  -- a tree with no filter, and with nothing planted
-  pub IsPlain : Tree → Type 0
-  IsPlain (Src source kind frames) = Unit {0}
-  IsPlain (Blank frames) = Unit {0}
-  IsPlain (Part t first last) = IsPlain t
-  IsPlain (Seq parts) = ArePlainParts parts
-  IsPlain (With t filters) = IsPlain t × (filters ≡ [])
-  IsPlain (Rows tracks plants) = ArePlainTracks tracks × (plants ≡ [])
+  -- a tree with nothing planted on its tracks
+  pub IsUnplanted : Tree → Type 0
+  IsUnplanted (Src source kind frames) = Unit {0}
+  IsUnplanted (Blank frames) = Unit {0}
+  IsUnplanted (Part t first last) = IsUnplanted t
+  IsUnplanted (Seq parts) = AreUnplantedParts parts
+  IsUnplanted (With t filters) = IsUnplanted t
+  IsUnplanted (Rows tracks plants) = AreUnplantedTracks tracks × (plants ≡ [])
 
-  pub ArePlainParts : Parts → Type 0
-  ArePlainParts End = Unit {0}
-  ArePlainParts (Then t parts) = IsPlain t × ArePlainParts parts
+  pub AreUnplantedParts : Parts → Type 0
+  AreUnplantedParts End = Unit {0}
+  AreUnplantedParts (Then t parts) = IsUnplanted t × AreUnplantedParts parts
 
-  pub ArePlainTracks : Tracks → Type 0
-  ArePlainTracks NoTrack = Unit {0}
-  ArePlainTracks (Track t hide tracks) = IsPlain t × ArePlainTracks tracks
+  pub AreUnplantedTracks : Tracks → Type 0
+  AreUnplantedTracks NoTrack = Unit {0}
+  AreUnplantedTracks (Track t hide tracks) = IsUnplanted t × AreUnplantedTracks tracks
 
--- a show that can be played: with no filter, nothing planted, and no sound
+-- a show that can be played: with nothing planted, and no sound
 pub record IsPlayed (show : Show) : Type 0 where
-  pub plain : IsPlain show.tree
+  pub unplanted : IsUnplanted show.tree
   pub silent : show.output.audio ≡ None
 
--- an entry with no filter
-abbrev pub IsPlainEntry : Entry → Type 0
-IsPlainEntry (Clip unit span filters) = filters ≡ []
-IsPlainEntry (Gap frames) = Unit {0}
-
-pub record IsPlainTrack (track : TrackOf) : Type 0 where
-  pub entries : All IsPlainEntry track.entries
-  pub filters : track.filters ≡ []
-
-abbrev pub IsPlainBody : Body → Type 0
-IsPlainBody (body.Source source kind frames) = Unit {0}
-IsPlainBody (body.Entries entries) = All IsPlainEntry entries
-IsPlainBody (body.Tractor tracks plants) = All IsPlainTrack tracks × (plants ≡ [])
-
--- a unit with no filter, whose entries and tracks have none, and with nothing planted
-pub record IsPlainNode (node : Node) : Type 0 where
-  pub body : IsPlainBody node.body
-  pub filters : node.filters ≡ []
+-- a unit with nothing planted on its tracks
+abbrev pub HasNoPlant : Body → Type 0
+HasNoPlant (body.Source source kind frames) = Unit {0}
+HasNoPlant (body.Entries entries) = Unit {0}
+HasNoPlant (body.Tractor tracks plants) = plants ≡ []

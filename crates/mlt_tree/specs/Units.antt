@@ -1,5 +1,5 @@
 -- Units, the tree that each stands for, and the tracks that become one.
-use Rattle.std.specs.Prelude.{ℕ, ◌+◌, ◌-◌, ◌≡◌, ◌≢◌, ◌<◌, max, false, List, [], ◌∷◌, ◌++◌, length, map, fold, get_or, Option, unwrap_or, All}
+use Rattle.std.specs.Prelude.{ℕ, ◌+◌, ◌-◌, ◌≡◌, ◌≢◌, ◌<◌, max, false, List, [], ◌∷◌, ◌++◌, length, map, fold, get_or, set, Option, unwrap_or, All}
 use Rattle.mlt_base.specs.declared.profile.SourceNo.{SourceNo}
 use Rattle.mlt_base.specs.declared.value.Span.{Span}
 use Rattle.mlt_base.specs.Span.{span}
@@ -125,6 +125,21 @@ tractor_of level = record {
 -- with other entries in the track that they are added to
 abbrev pub with_entries : Level → List Entry → Level
 with_entries level entries = record level { current = record level.current { entries = entries } }
+
+-- ---- filters that are attached
+
+-- a unit with one filter more, which acts after those that it has
+abbrev pub with_filter : Node → Attached → Node
+with_filter node filter = record node { filters = node.filters ++ filter ∷ [] }
+
+-- the units, with one filter more on a numbered one
+abbrev pub with_unit_filter : List Node → ℕ → Attached → List Node
+with_unit_filter nodes unit filter = set nodes unit (with_filter (get_or nodes unit (list_unit [])) filter)
+
+-- with one filter more on the track that entries are added to
+abbrev pub with_track_filter : Level → Pending → Level
+with_track_filter level filter =
+    record level { current = record level.current { filters = level.current.filters ++ filter ∷ [] } }
 
 -- ---- how deep units are nested
 

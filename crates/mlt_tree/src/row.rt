@@ -34,6 +34,20 @@ pub struct Choice {
     pub second: Name,
 }
 
+/// A number that may go from key to key, with its default as a text.
+#[derive(Clone, Copy, Debug)]
+pub struct Animated {
+    pub name: Name,
+    pub default: Name,
+}
+
+/// Four letters of `r`, `g`, `b` and `a`, with their default.
+#[derive(Clone, Copy, Debug)]
+pub struct Letters {
+    pub name: Name,
+    pub default: Name,
+}
+
 /// A time, which may be left out.
 #[derive(Clone, Copy, Debug)]
 pub struct Moment {
@@ -47,5 +61,7 @@ pub enum Property {
     Number(Number),
     Distance(Distance),
     Choice(Choice),
+    Animated(Animated),
+    Letters(Letters),
     Moment(Moment),
 }

@@ -1,6 +1,6 @@
 //! The tables of services and of their properties, which the definitions and the code that reads words share.
 
-use crate::row::{Choice, Count, Distance, Moment, Number, Property};
+use crate::row::{Animated, Choice, Count, Distance, Letters, Moment, Number, Property};
 use mlt_base::Name;
 use mlt_base::limits::MOST_FRAMES;
 
@@ -104,23 +104,120 @@ pub const RAW: Name = Name(*b"raw          ");
 /// The consumers, in the order in which they are listed.
 pub const CONSUMERS: [Name; 1] = [RAW];
 
-/// The filters, in the order in which they are listed.
-pub const FILTERS: [Name; 15] = [
-    Name(*b"brightness   "),
-    Name(*b"greyscale    "),
-    Name(*b"invert       "),
-    Name(*b"mirror       "),
-    Name(*b"crop         "),
-    Name(*b"threshold    "),
-    Name(*b"sepia        "),
-    Name(*b"obscure      "),
-    Name(*b"opacity      "),
-    Name(*b"swapchannels "),
-    Name(*b"volume       "),
-    Name(*b"mono         "),
-    Name(*b"channelcopy  "),
-    Name(*b"channelswap  "),
-    Name(*b"silence      "),
+/// How much brightness, opacity or loudness is multiplied by.
+pub const LEVEL: Animated = Animated {
+    name: Name(*b"level        "),
+    default: Name(*b"1            "),
+};
+/// Which sides are exchanged.
+pub const MIRROR: Choice = Choice {
+    name: Name(*b"mirror       "),
+    first: Name(*b"horizontal   "),
+    second: Name(*b"vertical     "),
+};
+/// How many pixels are cleared at the left.
+pub const LEFT: Count = Count {
+    name: Name(*b"left         "),
+    low: 0,
+    high: 4096,
+    default: 0,
+};
+/// How many pixels are cleared at the right.
+pub const RIGHT: Count = Count {
+    name: Name(*b"right        "),
+    low: 0,
+    high: 4096,
+    default: 0,
+};
+/// How many pixels are cleared at the top.
+pub const TOP: Count = Count {
+    name: Name(*b"top          "),
+    low: 0,
+    high: 4096,
+    default: 0,
+};
+/// How many pixels are cleared at the bottom.
+pub const BOTTOM: Count = Count {
+    name: Name(*b"bottom       "),
+    low: 0,
+    high: 4096,
+    default: 0,
+};
+/// How light white is at least.
+pub const MIDPOINT: Count = Count {
+    name: Name(*b"midpoint     "),
+    low: 0,
+    high: 255,
+    default: 128,
+};
+/// How wide a square is, in pixels.
+pub const SIZE: Count = Count {
+    name: Name(*b"size         "),
+    low: 1,
+    high: 4096,
+    default: 8,
+};
+/// The channels that the new red, green, blue and alpha are taken from.
+pub const ORDER: Letters = Letters {
+    name: Name(*b"order        "),
+    default: Name(*b"bgra         "),
+};
+
+/// What a filter does.
+#[derive(Clone, Copy, Debug, PartialEq, Eq)]
+pub enum FilterKind {
+    Brightness,
+    Greyscale,
+    Invert,
+    Mirror,
+    Crop,
+    Threshold,
+    Sepia,
+    Obscure,
+    Opacity,
+    SwapChannels,
+    Volume,
+    Mono,
+    ChannelCopy,
+    ChannelSwap,
+    Silence,
+}
+
+/// A filter by its id, with the name of its first property, where it has one.
+#[derive(Clone, Copy, Debug)]
+pub struct FilterRow {
+    pub name: Name,
+    pub kind: FilterKind,
+    pub first: Option<Name>,
+}
+
+/// The row of a filter: its id, its kind, and its first property.
+macro_rules! filter {
+    ($name:literal, $kind:ident) => {
+        FilterRow { name: Name(*$name), kind: FilterKind::$kind, first: None }
+    };
+    ($name:literal, $kind:ident, $first:literal) => {
+        FilterRow { name: Name(*$name), kind: FilterKind::$kind, first: Some(Name(*$first)) }
+    };
+}
+
+/// The filters, in the order in which they are listed. The first ten are of pictures, the others of sound.
+pub const FILTERS: [FilterRow; 15] = [
+    filter!(b"brightness   ", Brightness, b"level        "),
+    filter!(b"greyscale    ", Greyscale),
+    filter!(b"invert       ", Invert),
+    filter!(b"mirror       ", Mirror, b"mirror       "),
+    filter!(b"crop         ", Crop, b"left         "),
+    filter!(b"threshold    ", Threshold, b"midpoint     "),
+    filter!(b"sepia        ", Sepia),
+    filter!(b"obscure      ", Obscure, b"size         "),
+    filter!(b"opacity      ", Opacity, b"level        "),
+    filter!(b"swapchannels ", SwapChannels, b"order        "),
+    filter!(b"volume       ", Volume, b"level        "),
+    filter!(b"mono         ", Mono),
+    filter!(b"channelcopy  ", ChannelCopy, b"from         "),
+    filter!(b"channelswap  ", ChannelSwap),
+    filter!(b"silence      ", Silence),
 ];
 
 /// The merges, in the order in which they are listed.
@@ -148,6 +245,68 @@ pub const PROPERTIES: &[(&str, &[Property])] = &[
             Property::Moment(IN),
             Property::Moment(OUT),
             Property::Number(LENGTH),
+        ],
+    ),
+    (
+        "brightness",
+        &[
+            Property::Moment(IN),
+            Property::Moment(OUT),
+            Property::Animated(LEVEL),
+        ],
+    ),
+    ("greyscale", &[Property::Moment(IN), Property::Moment(OUT)]),
+    ("invert", &[Property::Moment(IN), Property::Moment(OUT)]),
+    (
+        "mirror",
+        &[
+            Property::Moment(IN),
+            Property::Moment(OUT),
+            Property::Choice(MIRROR),
+        ],
+    ),
+    (
+        "crop",
+        &[
+            Property::Moment(IN),
+            Property::Moment(OUT),
+            Property::Count(LEFT),
+            Property::Count(RIGHT),
+            Property::Count(TOP),
+            Property::Count(BOTTOM),
+        ],
+    ),
+    (
+        "threshold",
+        &[
+            Property::Moment(IN),
+            Property::Moment(OUT),
+            Property::Count(MIDPOINT),
+        ],
+    ),
+    ("sepia", &[Property::Moment(IN), Property::Moment(OUT)]),
+    (
+        "obscure",
+        &[
+            Property::Moment(IN),
+            Property::Moment(OUT),
+            Property::Count(SIZE),
+        ],
+    ),
+    (
+        "opacity",
+        &[
+            Property::Moment(IN),
+            Property::Moment(OUT),
+            Property::Animated(LEVEL),
+        ],
+    ),
+    (
+        "swapchannels",
+        &[
+            Property::Moment(IN),
+            Property::Moment(OUT),
+            Property::Letters(ORDER),
         ],
     ),
     (
