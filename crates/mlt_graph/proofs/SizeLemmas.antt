@@ -26,7 +26,7 @@ abbrev sized : (length need depth : ℕ) → Size
 sized length need depth = record { length = length; need = need; depth = depth }
 
 -- sizes with the same numbers are the same
-same_size : (a b : Size) → a.length ≡ b.length → a.need ≡ b.need → a.depth ≡ b.depth → a ≡ b
+pub same_size : (a b : Size) → a.length ≡ b.length → a.need ≡ b.need → a.depth ≡ b.depth → a ≡ b
 same_size a b length need depth = by a.length a.need a.depth b.length b.need b.depth length need depth
   where
     by : (l n d l' n' d' : ℕ) → l ≡ l' → n ≡ n' → d ≡ d' → sized l n d ≡ sized l' n' d'

@@ -1,19 +1,21 @@
 -- The unit of a level's tracks.
-use Rattle.std.proofs.Common.{◌≡◌, ℕ, ◌<◌, ◌≢◌, ◌^◌, List, [], ◌∷◌, ◌++◌, length, get_or, map, refl, sym, ap, ◌∙◌, subst, arith}
+use Rattle.std.proofs.Common.{◌≡◌, ℕ, ◌<◌, ◌≢◌, ◌^◌, List, [], ◌∷◌, ◌++◌, length, get_or, map, Option, None, Some, refl, sym, ap, ◌∙◌, subst, arith}
 use Rattle.std.proofs.lemmas.List.Elements.{All-map, All-nil, All-push, All-weaker, All-from_recursion, recursion_from_All}
 use Rattle.std.proofs.lemmas.List.Sums.{fold_push}
 use Rattle.std.specs.List.{All, AllByRecursion}
+use Rattle.mlt_base.specs.Span.{IsSpan}
 use Rattle.mlt_tree.specs.declared.draft.Draft.{Draft}
+use Rattle.mlt_tree.specs.declared.draft.Pending.{Pending}
 use Rattle.mlt_tree.specs.declared.node.Body.TheVariants.{Tractor}
 use Rattle.mlt_tree.specs.declared.node.Node.{Node}
 use Rattle.mlt_tree.specs.declared.node.Track.{Track as TrackOf}
 use Rattle.mlt_tree.specs.declared.tree.Plant.{Plant}
 use Rattle.mlt_tree.specs.Ranges.{IsAttached, IsPlant, frames}
 use Rattle.mlt_tree.specs.Tree.{Tree, len, longest}
-use Rattle.mlt_tree.specs.Units.{Level, drafts_of, track_of, attached_within, plant_within, level_frames, tractor_of, tracks_of, node_tree, tree_of, body_depth, depth_of, IsEntryBelow, AreEntriesBelow, IsTrackBelow, IsOnTracks, IsBodyBelow}
+use Rattle.mlt_tree.specs.Units.{Level, drafts_of, track_of, span_within, attached_within, plant_within, level_frames, tractor_of, tracks_of, node_tree, tree_of, body_depth, depth_of, IsEntryBelow, AreEntriesBelow, IsTrackBelow, IsOnTracks, IsBodyBelow}
 use Rattle.mlt_tree.specs.Edits.{frames_in}
 use Rattle.mlt_playlist.specs.Playlist.{IsList}
-use Rattle.mlt_graph.specs.Drafts.{IsFinished, IsLevel, plain_track}
+use Rattle.mlt_graph.specs.Drafts.{IsOpenSpan, IsPending, IsFinished, IsLevel}
 use Rattle.mlt_graph.specs.Graph.{HasLength, IsSized}
 use Rattle.mlt_graph.specs.Lists.{starts_in}
 use Rattle.mlt_graph.specs.Sizes.{nothing, over_size, entries_size, drafts_size, size_of, tractor_size}
@@ -22,18 +24,20 @@ use Rattle.mlt_graph.proofs.SizeLemmas.{len_in-frames, tractor_size-is}
 
 -- ---- what a level's tracks are
 
--- a track with no filter is what it will be
-track-is : (draft : Draft) → draft.filters ≡ [] → plain_track draft ≡ track_of draft
-track-is draft none =
-    ap (λ fs. record { entries = draft.entries; filters = map (attached_within (frames_in draft.entries)) fs; hide = draft.hide }) (sym none)
+-- a filter on so many frames is in its range
+span-within : (frames first : ℕ) (last : Option ℕ) → IsOpenSpan first last → IsSpan (span_within frames first last)
+span-within frames first None is = omega arith
+span-within frames first (Some end) is = is.0
 
-attached_none : (draft : Draft) → draft.filters ≡ [] → All IsAttached (track_of draft).filters
-attached_none draft none = subst (λ (track : TrackOf). All IsAttached track.filters) (track-is draft none) (All-nil IsAttached)
+attached-within : (frames : ℕ) (filter : Pending) → IsPending filter → IsAttached (attached_within frames filter)
+attached-within frames filter is = (is.spec, span-within frames filter.first filter.last is.span)
 
-tracks-are_of : (drafts : List Draft) → AllByRecursion (λ (draft : Draft). draft.filters ≡ []) drafts → map plain_track drafts ≡ map track_of drafts
-tracks-are_of [] none = refl
-tracks-are_of (draft ∷ drafts) none =
-    ap (λ track. track ∷ map plain_track drafts) (track-is draft none.0) ∙ ap (λ tracks. track_of draft ∷ tracks) (tracks-are_of drafts none.1)
+-- and so are those of a track, as it stands at the end
+filters-within : (draft : Draft) → All IsPending draft.filters → All IsAttached (track_of draft).filters
+filters-within draft are =
+    let frames = frames_in draft.entries in
+    All-map IsAttached (attached_within frames) draft.filters
+    (All-weaker IsPending (λ filter. IsAttached (attached_within frames filter)) (attached-within frames) draft.filters are)
 
 -- what holds of all tracks holds of the closed ones, and of the last
 parted : (P : Draft → Type 0) (closed : List Draft) (last : Draft) → AllByRecursion P (closed ++ last ∷ []) → AllByRecursion P closed × P last
@@ -47,16 +51,12 @@ all-closed P level all =
 pub all-last : (P : Draft → Type 0) (level : Level) → All P (drafts_of level) → P level.current
 all-last P level all = (parted P level.closed level.current (recursion_from_All P (drafts_of level) all)).1
 
-no_filters : (level : Level) → IsLevel level → All (λ draft. draft.filters ≡ []) (drafts_of level)
-no_filters level is =
-    All-push (λ draft. draft.filters ≡ []) level.closed level.current (All-weaker IsFinished (λ draft. draft.filters ≡ []) (λ draft finished. finished.filters) level.closed is.closed) is.filters
+all-pending : (level : Level) → IsLevel level → All (λ draft. All IsPending draft.filters) (drafts_of level)
+all-pending level is =
+    All-push (λ draft. All IsPending draft.filters) level.closed level.current
+    (All-weaker IsFinished (λ draft. All IsPending draft.filters) (λ draft finished. finished.filters) level.closed is.closed) is.filters
 
--- the tracks as they are made
-pub tracks-are : (level : Level) → IsLevel level → map plain_track (drafts_of level) ≡ map track_of (drafts_of level)
-tracks-are level is =
-    tracks-are_of (drafts_of level) (recursion_from_All (λ draft. draft.filters ≡ []) (drafts_of level) (no_filters level is))
-
--- and where their entries begin
+-- where the entries of the tracks begin
 begins : (drafts : List Draft) → map (λ (draft : Draft). map frames draft.entries) drafts ≡ map (map frames) (map (λ (track : TrackOf). track.entries) (map track_of drafts))
 begins [] = refl
 begins (draft ∷ drafts) = ap (λ all. map frames draft.entries ∷ all) (begins drafts)
@@ -64,7 +64,7 @@ begins (draft ∷ drafts) = ap (λ all. map frames draft.entries ∷ all) (begin
 pub starts-are : (level : Level) → map (λ (draft : Draft). map frames draft.entries) (drafts_of level) ≡ starts_in (tractor_of level).body
 starts-are level = begins (drafts_of level)
 
--- the last one too has no filter
+-- the last one too is a playlist's entries, with filters that can act on them
 pub all_finished : (level : Level) → IsLevel level → IsList level.current.entries → All IsFinished (drafts_of level)
 all_finished level is list =
     All-push IsFinished level.closed level.current is.closed (record { list = list; filters = is.filters })
@@ -78,10 +78,10 @@ plants-are : (level : Level) → IsLevel level → [] ≡ map (plant_within (lev
 plants-are level is = ap (map (plant_within (level_frames level))) (sym is.plants)
 
 -- the tractor as it is made
-pub body-is : (level : Level) (tracks : List TrackOf) (plants : List Plant) → IsLevel level → tracks ≡ map plain_track (drafts_of level) → plants ≡ []
+pub body-is : (level : Level) (tracks : List TrackOf) (plants : List Plant) → IsLevel level → tracks ≡ map track_of (drafts_of level) → plants ≡ []
     → Tractor tracks plants ≡ (tractor_of level).body
 body-is level tracks plants is made none =
-    ap (λ ts. Tractor ts plants) (made ∙ tracks-are level is) ∙ ap (Tractor (map track_of (drafts_of level))) (none ∙ plants-are level is)
+    ap (λ ts. Tractor ts plants) made ∙ ap (Tractor (map track_of (drafts_of level))) (none ∙ plants-are level is)
 
 -- the size of all is that of the closed ones, with the last one over them
 pub drafts_size-last : (table : List Size) (level : Level)
@@ -117,7 +117,7 @@ module _ (us : List Node) (sizes : List Size) (level : Level) (sized : IsSized u
   tractor-below = record {
     tracks_below = All-map (IsTrackBelow (length us)) track_of (drafts_of level) (λ k d within. record {
       entries = ranged k d within;
-      filters = attached_none (get_or (drafts_of level) k d) (no_filters level is k d within);
+      filters = filters-within (get_or (drafts_of level) k d) (all-pending level is k d within);
     });
     ranges = subst (All IsPlant) (plants-are level is) (All-nil IsPlant);
     on_tracks = subst (All (IsOnTracks (length (map track_of (drafts_of level))))) (plants-are level is) (All-nil (IsOnTracks (length (map track_of (drafts_of level)))));

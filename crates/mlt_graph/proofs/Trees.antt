@@ -85,7 +85,7 @@ module _ {X Y : Type 0} (past : X) (make : (ℕ → X) → Node → X) (past' : 
       rw (get_or-pushed past xs x k (length xs) refl, get_or-pushed past' ys y k (length xs) (sym long))
       (R-cond (eqb k (length xs)) x (get_or xs k past) y (get_or ys k past') new (all k))
 
-  R-grown : (us : List Node) → AllByRecursion Fits us
+  pub R-grown : (us : List Node) → AllByRecursion Fits us
       → ((f : ℕ → X) (g : ℕ → Y) (u : Node) → Fits u → ((k : ℕ) → R (f k) (g k)) → R (make f u) (make' g u))
       → (xs : List X) (ys : List Y) → length xs ≡ length ys → ((k : ℕ) → R (get_or xs k past) (get_or ys k past'))
       → (k : ℕ) → R (get_or (grown past make xs us) k past) (get_or (grown past' make' ys us) k past')

@@ -1,13 +1,14 @@
 //! A track to which nothing is added any more.
 
-ghost use Rattle.std.specs.Prelude.{◌≡◌, map};
+ghost use Rattle.std.specs.Prelude.{◌≡◌, map, IfOk};
 ghost use Rattle.mlt_tree.specs.Ranges.{frames};
-ghost use Rattle.mlt_graph.specs.Drafts.{plain_track};
+ghost use Rattle.mlt_tree.specs.Units.{track_of};
 
+use crate::pending::attached_all;
 use mlt_index::Starts;
 use mlt_playlist::Playlist;
-use mlt_tree::{Entry, FilterList, Hide, ItemList, Pending, Track};
-use std::alloc::Global;
+use mlt_tree::{Entry, Hide, ItemList, Pending, Track};
+use std::alloc::{AllocError, Global};
 use std::marker::Model;
 
 /// A track to which nothing is added any more. Contracts see it as its draft.
@@ -34,22 +35,24 @@ impl Closed {
         self.list.as_slice()
     }
 
-    /// The track with no filter, and where its entries begin, without a copy.
-    pub fn into_track(self, alloc: Global) -> (Track, Starts)
-        ensures track { result.0 ≡ plain_track self }
-        ensures starts { result.1 ≡ map frames self.entries }
+    /// The track as it stands at the end, and where its entries begin. Neither its entries nor its filters
+    /// are copied; what takes memory is the list of the filters with their spans.
+    pub fn into_track(self, alloc: Global) -> Result<(Track, Starts), AllocError>
+        ensures track { IfOk result (λ made. made.0 ≡ track_of self) }
+        ensures starts { IfOk result (λ made. made.1 ≡ map frames self.entries) }
     {
         let Closed {
             list,
-            filters: _,
+            filters,
             hide,
         } = self;
+        let filters = attached_all(alloc, list.length(), filters)?;
         let (entries, starts) = list.into_parts();
         let track = Track {
             entries,
-            filters: FilterList::new(alloc),
+            filters,
             hide,
         };
-        (track, starts)
+        Ok((track, starts))
     }
 }

@@ -2,8 +2,9 @@
 
 ghost use Rattle.std.specs.Prelude.{◌≡◌, ◌≤◌, ◌<◌, ◌^◌, ◌⊎◌, ◌↔◌, [], ◌∷◌, ◌++◌, length, All, Err, IfOk, IfErr, OnOk, OnErr};
 ghost use Rattle.mlt_tree.specs.Edits.{frames_in};
+ghost use Rattle.mlt_tree.specs.Ranges.{IsAttached};
 ghost use Rattle.mlt_tree.specs.Tree.{len};
-ghost use Rattle.mlt_tree.specs.Units.{source_unit, list_unit, node_tree, drafts_of, tractor_of, tree_of, body_depth, depth_of, IsEntryBelow, AreEntriesBelow, IsBodyBelow};
+ghost use Rattle.mlt_tree.specs.Units.{source_unit, list_unit, node_tree, drafts_of, tractor_of, with_filter, with_unit_filter, tree_of, body_depth, depth_of, IsEntryBelow, AreEntriesBelow, IsBodyBelow};
 ghost use Rattle.mlt_graph.specs.declared.fault.GraphFault.TheVariants.{NoProducer, Memory};
 ghost use Rattle.mlt_graph.specs.Graph.{HasLength, HasFewTracks};
 ghost use Rattle.mlt_graph.specs.Lists.{starts_in};
@@ -19,7 +20,7 @@ use mlt_base::limits::{MOST_DEPTH, MOST_WEIGHT};
 use mlt_base::{SourceNo, UnitId};
 use mlt_index::Starts;
 use mlt_playlist::{EntryList, starts_of};
-use mlt_tree::{Body, FilterList, ItemList, Node, SourceKind};
+use mlt_tree::{Attached, Body, FilterList, ItemList, Node, SourceKind};
 use std::alloc::{AllocError, Global};
 use std::marker::Model;
 
@@ -143,6 +144,18 @@ impl Graph {
         }
     }
 
+    /// Adds a filter to a unit, which acts after those that it has, in the unit's own positions. After want
+    /// of memory the graph is as it was.
+    pub fn attach(&mut self, unit: UnitId, filter: Attached) -> Result<(), AllocError>
+        requires there { unit.0 < length self.old }
+        requires range { IsAttached filter }
+        ensures ok { OnOk result (self.new ≡ with_unit_filter self.old unit.0 filter) }
+        ensures err { OnErr result (self.new ≡ self.old) }
+    {
+        push_filter(&mut self.nodes[unit.0 as usize], filter)?;
+        Ok(())
+    }
+
     /// Ends the graph: `top` is what is played. It takes no memory.
     ///
     /// `TooDeep` comes where `top` is nested deeper than 16, and then `TooMany` where its weight is above
@@ -198,6 +211,17 @@ impl Graph {
         self.weights.push(Weight::none())?;
         self.starts.push(starts)?;
         Ok(id)
+    }
+}
+
+/// Puts a filter behind those of a unit.
+fn push_filter(node: &mut Node, filter: Attached) -> Result<(), AllocError>
+    ensures ok { OnOk result (node.new ≡ with_filter node.old filter) }
+    ensures err { OnErr result (node.new ≡ node.old) }
+{
+    match node.filters.push(filter) {
+        Ok(()) => Ok(()),
+        Err(_) => Err(AllocError),
     }
 }
 

@@ -1,19 +1,21 @@
 //! The tracks of a tractor that is not made yet.
 
-ghost use Rattle.std.specs.Prelude.{◌≡◌, ◌≤◌, [], length, All, IfOk};
+ghost use Rattle.std.specs.Prelude.{◌≡◌, ◌≤◌, [], length, All, IfOk, OnOk, OnErr};
 ghost use Rattle.std.specs.Borrow.{sem};
 ghost use Rattle.mlt_base.specs.declared.limits.TheConstants.{MOST_TRACKS};
 ghost use Rattle.mlt_playlist.specs.Playlist.{IsList};
+ghost use Rattle.mlt_graph.specs.Drafts.{IsOpenSpan};
 ghost use Rattle.mlt_graph.specs.LevelLends.{LendsLast};
 ghost use Rattle.mlt_graph.specs.Lists.{starts_in};
 ghost use Rattle.mlt_graph.specs.Sizes.{drafts_size};
-ghost use Rattle.mlt_tree.specs.Units.{empty_level, drafts_of, tractor_of, AreEntriesBelow};
+ghost use Rattle.mlt_tree.specs.Ranges.{IsFilter};
+ghost use Rattle.mlt_tree.specs.Units.{empty_level, drafts_of, tractor_of, with_track_filter, AreEntriesBelow};
 
 use crate::closed::Closed;
 use crate::size::Size;
 use mlt_index::Starts;
 use mlt_playlist::Playlist;
-use mlt_tree::{Body, Hide, ItemList, Pending, PendingPlant};
+use mlt_tree::{Body, FilterSpec, Hide, ItemList, Pending, PendingPlant};
 use std::alloc::{AllocError, Global};
 use std::marker::Model;
 
@@ -100,7 +102,7 @@ impl Level {
         let mut tracks = Vec::with_capacity(alloc, closed.len())?;
         let mut starts = Vec::with_capacity(alloc, closed.len())?;
         for draft in closed {
-            let (track, begins) = draft.into_track(alloc);
+            let (track, begins) = draft.into_track(alloc)?;
             tracks.push(track)?;
             starts.push(begins)?;
         }
@@ -109,6 +111,26 @@ impl Level {
             plants: ItemList::new(alloc),
         };
         Ok((body, ItemList::from_vec(starts)))
+    }
+
+    /// Adds a filter to the last track, which acts after those that it has, from its first position to its
+    /// last; where no last is given it acts to the end of the finished track. Both are positions of the track,
+    /// which may not have them yet. After want of memory the level is as it was.
+    pub fn attach_track(
+        &mut self,
+        spec: FilterSpec,
+        first: u32,
+        last: Option<u32>,
+    ) -> Result<(), AllocError>
+        requires filter { IsFilter spec }
+        requires span { IsOpenSpan first last }
+        ensures ok { OnOk result (self.new ≡ with_track_filter self.old (record { spec = spec; first = first; last = last })) }
+        ensures err { OnErr result (self.new ≡ self.old) }
+    {
+        match self.filters.push(Pending { spec, first, last }) {
+            Ok(()) => Ok(()),
+            Err(_) => Err(AllocError),
+        }
     }
 
     /// The entries of the last track.

@@ -1,8 +1,8 @@
 //! Units that refer to each other, the tracks of a tractor before it is made, and what is played in the end.
 //!
-//! A [`Graph`] grows by one unit at a time, and is sealed when all is there: a [`Sealed`] stands for one
-//! tree, whose length and needs are known. A [`Show`] is that, with the size and rate of the frames and
-//! where they go.
+//! A [`Graph`] grows by one unit at a time, or by a filter on one of them, and is sealed when all is there: a
+//! [`Sealed`] stands for one tree, whose length and needs are known. A [`Show`] is that, with the size and
+//! rate of the frames and where they go.
 //!
 //! Below stand `mlt_tree`, whose `specs/Units` says which tree a unit stands for, `mlt_playlist`, whose
 //! lists are the entries of units and tracks, and `mlt_index`, for where these begin; above, whatever
@@ -14,6 +14,7 @@ mod closed;
 pub mod fault;
 pub mod graph;
 pub mod level;
+mod pending;
 pub mod sealed;
 pub mod show;
 mod size;
@@ -23,7 +24,7 @@ pub use fault::GraphFault;
 pub use graph::Graph;
 pub use level::Level;
 pub use sealed::Sealed;
-pub use show::{Format, Output, Pix, Show};
+pub use show::{Format, Output, Pix, Show, unit_of};
 
 #[cfg(test)]
 mod tests;

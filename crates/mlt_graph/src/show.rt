@@ -1,8 +1,10 @@
 //! What is played, and where it goes.
 
 ghost use Rattle.std.specs.Prelude.{◌≡◌, ℕ, ◌+◌, ◌-◌, ◌≤◌, ◌<◌, ◌^◌};
+ghost use Rattle.mlt_base.specs.ProfileView.{measures_of};
 ghost use Rattle.mlt_base.specs.declared.limits.TheConstants.{MOST_WRITTEN};
 ghost use Rattle.mlt_tree.specs.declared.services.TheConstants as row;
+ghost use Rattle.mlt_tree.specs.Sealing.{unit_of};
 ghost use Rattle.mlt_tree.specs.Tree.{len};
 ghost use Rattle.mlt_graph.specs.Sealed.{tree};
 
@@ -105,6 +107,16 @@ impl Output {
         let sound = profile.most_samples() * self.channels * self.format.bytes();
         picture + sound
     }
+}
+
+/// The bytes of one picture, 4 bytes a pixel, or of one pair's sound in a frame, whichever is more.
+pub fn unit_of(profile: &Profile) -> u32
+    ensures value { result ≡ unit_of (measures_of profile.now) }
+    ensures most { result ≤ 2 ^ 28 }
+{
+    let picture = profile.width * profile.height * 4;
+    let sound = 4 * profile.most_samples();
+    picture.max(sound)
 }
 
 /// What is played: frames of a size and rate, a composition, and where they go.

@@ -1,12 +1,12 @@
 //! A graph as its caller sees it.
 
-ghost use Rattle.std.specs.Prelude.{◌≡◌, ◌+◌, ◌≤◌, ◌<◌, ◌^◌, ℕ, length, All, IfOk};
+ghost use Rattle.std.specs.Prelude.{◌≡◌, ◌+◌, ◌-◌, ◌≤◌, ◌<◌, ◌^◌, ℕ, length, All, IfOk};
 ghost use Rattle.mlt_base.specs.Span.{IsSpan};
 ghost use Rattle.mlt_tree.specs.Edits.{frames_in};
 ghost use Rattle.mlt_tree.specs.Ranges.{IsAttached};
 ghost use Rattle.mlt_tree.specs.Units.{drafts_of, IsEntryBelow, AreEntriesBelow};
 
-use crate::{Format, Graph, GraphFault, Level, Output, Pix};
+use crate::{Format, Graph, GraphFault, Level, Output, Pix, unit_of};
 use mlt_base::{Pos, Profile, Rate, SourceNo, Span, Text, UnitId};
 use mlt_playlist::EntryList;
 use mlt_tree::{Attached, Entry, FilterList, FilterSpec, ItemList, SourceKind};
@@ -21,17 +21,36 @@ struct Told {
     sealed: Result<(u32, u32, u32), GraphFault>,
 }
 
+/// The span of the first frames of a unit.
+fn first_frames(frames: u32) -> Span
+    requires { 1 ≤ frames }
+    ensures span { IsSpan result }
+    ensures frames { result.last.0 + 1 - result.first.0 ≡ frames }
+{
+    Span {
+        first: Pos(0),
+        last: Pos(frames - 1),
+    }
+}
+
 /// A filter that inverts the colours of these frames.
-fn invert(alloc: Global, span: Span) -> Result<FilterList, AllocError>
+fn invert(span: Span) -> Attached
+    requires { IsSpan span }
+    ensures { IsAttached result }
+{
+    Attached {
+        spec: FilterSpec::Invert,
+        span,
+    }
+}
+
+/// Such a filter alone.
+fn inverts(alloc: Global, span: Span) -> Result<FilterList, AllocError>
     requires { IsSpan span }
     ensures { IfOk result (λ filters. All IsAttached filters) }
 {
     let mut filters = ItemList::new(alloc);
-    let filter = Attached {
-        spec: FilterSpec::Invert,
-        span,
-    };
-    match filters.push(filter) {
+    match filters.push(invert(span)) {
         Ok(()) => Ok(filters),
         Err(_) => Err(AllocError),
     }
@@ -43,11 +62,8 @@ fn clip_of(alloc: Global, unit: UnitId, frames: u32) -> Result<EntryList, AllocE
     ensures below { IfOk result (λ list. (count : ℕ) → unit.0 < count → AreEntriesBelow count list) }
     ensures frames { IfOk result (λ list. frames_in list ≡ frames) }
 {
-    let span = Span {
-        first: Pos(0),
-        last: Pos(frames - 1),
-    };
-    let filters = invert(alloc, span)?;
+    let span = first_frames(frames);
+    let filters = inverts(alloc, span)?;
     let mut list = ItemList::new(alloc);
     let clip = Entry::Clip {
         unit,
@@ -60,11 +76,12 @@ fn clip_of(alloc: Global, unit: UnitId, frames: u32) -> Result<EntryList, AllocE
     }
 }
 
-/// A track of the first frames of a unit, or with no entry where none are asked for.
+/// A track of the first frames of a unit, or with no entry where none are asked for, with its colours inverted.
 fn level_of(alloc: Global, unit: UnitId, frames: u32) -> Result<Level, AllocError>
     ensures { IfOk result (λ level. (count : ℕ) → unit.0 < count → All (λ draft. All (IsEntryBelow count) draft.entries) (drafts_of level)) }
 {
     let mut level = Level::new(alloc)?;
+    level.attach_track(FilterSpec::Invert, 0, None)?;
     if frames > 0 {
         let added = level.last().append_io(unit, frames, 0, frames - 1);
         if added.is_err() {
@@ -86,7 +103,7 @@ fn nest(graph: &mut Graph, alloc: Global, unit: UnitId, count: u32) -> Result<Un
     Ok(unit)
 }
 
-/// A tractor of a source of three frames in so many lists.
+/// A tractor of a source of three frames in so many lists, of which the last gets a filter at the end.
 fn tell(alloc: Global, lists: u32) -> Result<Told, AllocError> {
     let mut graph = Graph::new(alloc);
     let source = graph.add_source(SourceNo(0), SourceKind::Colour, 3)?;
@@ -96,6 +113,7 @@ fn tell(alloc: Global, lists: u32) -> Result<Told, AllocError> {
         Ok(tractor) => tractor,
         Err(_) => return Err(AllocError),
     };
+    graph.attach(list, invert(first_frames(1)))?;
     let lengths = (
         graph.length_of(source),
         graph.length_of(list),
@@ -117,13 +135,13 @@ fn seals_lists_in_a_tractor(rt: HostRuntime) -> Result<(), Fail> {
     let two = tell(rt.alloc(), 2)?;
     assert_eq!(rt; two.empty, Err(GraphFault::NoProducer));
     assert_eq!(rt; two.lengths, (3, 2, 1));
-    assert_eq!(rt; two.sealed, Ok((1, 2, 3)));
+    assert_eq!(rt; two.sealed, Ok((1, 2, 5)));
     Ok(())
 }
 
 #[test]
 fn seals_sixteen_deep_at_most(rt: HostRuntime) -> Result<(), Fail> {
-    assert_eq!(rt; tell(rt.alloc(), 15)?.sealed, Ok((1, 2, 16)));
+    assert_eq!(rt; tell(rt.alloc(), 15)?.sealed, Ok((1, 2, 18)));
     assert_eq!(rt;
         tell(rt.alloc(), 16)?.sealed,
         Err(GraphFault::TooDeep { depth: 17 })
@@ -198,5 +216,6 @@ fn has_room_for_a_frame(rt: HostRuntime) -> Result<(), Fail> {
     let long = output_of(rt.alloc(), Pix::Rgba, Format::S32)?;
     assert_eq!(rt; short.piece(&profile), 1_244_160 + 7_680);
     assert_eq!(rt; long.piece(&profile), 1_658_880 + 15_360);
+    assert_eq!(rt; unit_of(&profile), 1_658_880);
     Ok(())
 }

@@ -4,8 +4,8 @@ use Rattle.std.proofs.lemmas.Iterator.Adapters.{YieldsList-from_vec}
 use Rattle.std.proofs.lemmas.Iterator.Consumers.{YieldsList-end}
 use Rattle.mlt_tree.specs.declared.draft.Draft.{Draft}
 use Rattle.mlt_tree.specs.Ranges.{frames}
-use Rattle.mlt_tree.specs.Units.{drafts_of}
-use Rattle.mlt_graph.specs.Drafts.{IsLevel, plain_track}
+use Rattle.mlt_tree.specs.Units.{drafts_of, track_of}
+use Rattle.mlt_graph.specs.Drafts.{IsLevel}
 use Rattle.mlt_graph.proofs.Tractors.{body-is, starts-are}
 use Rattle.mlt_graph.proofs.level.Level.into_body.Goals as goal
 use Rattle.mlt_graph.proofs.level.Level.into_body.Goals.{After-drop-self-inside-2}
@@ -20,7 +20,7 @@ all-drafts c =
 pub returns-clause-body : goal.returns-clause-body
 returns-clause-body c =
     let level = c.args.self in
-    let tracks : c.from_vec.result ≡ map plain_track (drafts_of level) = c.from_vec.ensures ∙ c.loop-draft.invariant.tracks ∙ ap (map plain_track) (all-drafts c) in
+    let tracks : c.from_vec.result ≡ map track_of (drafts_of level) = c.from_vec.ensures ∙ c.loop-draft.invariant.tracks ∙ ap (map track_of) (all-drafts c) in
     body-is level c.from_vec.result c.new.result (subst IsLevel c.self.view_is c.self.invariant) tracks c.new.ensures
 
 pub returns-clause-starts : goal.returns-clause-starts

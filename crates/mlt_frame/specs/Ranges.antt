@@ -1,0 +1,13 @@
+-- The numbers of operations, in their ranges. An enum can't keep a range by itself, so what evaluates operations asks
+-- for it.
+use Rattle.mlt_frame.specs.declared.op.Op.{Op}
+use Rattle.mlt_frame.specs.declared.op.Op.TheVariants.{Load, Absent, Filter, Merge, Keep}
+use Rattle.mlt_tree.specs.Ranges.{IsFilterStep}
+
+-- the numbers of a filter are those of its step; no merge is evaluated yet
+abbrev pub IsInRange : Op → Type 0
+IsInRange (Load source at) = Unit {0}
+IsInRange Absent = Unit {0}
+IsInRange (Filter depth step) = IsFilterStep step
+IsInRange (Merge a b step) = ⊥
+IsInRange (Keep row count) = Unit {0}
