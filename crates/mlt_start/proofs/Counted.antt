@@ -28,15 +28,15 @@ Where P None = Unit {0}
 Where P (Some ops) = P ops
 
 module _ (P : List Op → Type 0) where
-  where-cond : (t : Bool) (x y : Option (List Op)) → Where P x → Where P y → Where P (cond t x y)
+  pub where-cond : (t : Bool) (x y : Option (List Op)) → Where P x → Where P y → Where P (cond t x y)
   where-cond true x y first second = first
   where-cond false x y first second = second
 
-  where-or_under : (x y : Option (List Op)) → Where P x → Where P y → Where P (or_under x y)
+  pub where-or_under : (x y : Option (List Op)) → Where P x → Where P y → Where P (or_under x y)
   where-or_under None y first second = second
   where-or_under (Some ops) y first second = first
 
-  where-map : (Q : List Op → Type 0) (f : List Op → List Op) → ((ops : List Op) → P ops → Q (f ops)) → (x : Option (List Op)) → Where P x → Where Q (option_map f x)
+  pub where-map : (Q : List Op → Type 0) (f : List Op → List Op) → ((ops : List Op) → P ops → Q (f ops)) → (x : Option (List Op)) → Where P x → Where Q (option_map f x)
   where-map Q f each None h = tt
   where-map Q f each (Some ops) h = each ops h
 
@@ -227,7 +227,8 @@ module _ (sources maps : ℕ → Type 0) where
         (rows-named v tracks n (λ s k there. h s k (Contains-append_right (sources_in t) (sources_in_tracks tracks) (s, k) there)))
         (where-cond Named (hides v hide) None (code v t n) tt (code-named v t n (λ s k there. h s k (Contains-append_left (sources_in t) (sources_in_tracks tracks) (s, k) there))))
 
-filled-named : (P : Op → Type 0) (c : Option (List Op)) → P Absent → Where (All P) c → All P (or_absent c)
+-- what holds of nothing and of what there is
+pub filled-named : (P : Op → Type 0) (c : Option (List Op)) → P Absent → Where (All P) c → All P (or_absent c)
 filled-named P None absent h = All-cons P Absent [] absent (All-nil P)
 filled-named P (Some ops) absent h = h
 

@@ -2,5 +2,5 @@ mod Both
 mod Meant
 mod Loaded
 mod Counted
-mod Plain
+mod Ranged
 mod Walked

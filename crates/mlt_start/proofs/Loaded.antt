@@ -14,7 +14,7 @@ use Rattle.mlt_tree.specs.Medium.{Pictures, makes, hides}
 use Rattle.mlt_tree.specs.Needs.{presence, alone, or_none, row_sets, needs, needs_in, needs_of_rows}
 use Rattle.mlt_tree.specs.Tree.{Tree, Parts, Tracks, Src, Blank, Part, Seq, With, Rows, End, Then, NoTrack, Track, len}
 use Rattle.mlt_start.specs.Code.{code, code_in, rows_code, filter_ops, with_filters, load_of, or_absent}
-use Rattle.mlt_start.specs.Unplanted.{IsUnplanted, AreUnplantedParts, AreUnplantedTracks}
+use Rattle.mlt_tree.specs.Unbuilt.{IsUnplanted, AreUnplantedParts, AreUnplantedTracks}
 use Rattle.mlt_start.proofs.Both.{both-same}
 use Rattle.mlt_start.proofs.Meant.{Makes, row-makes}
 

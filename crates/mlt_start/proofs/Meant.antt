@@ -13,7 +13,7 @@ use Rattle.mlt_tree.specs.Meaning.{Matter, mean, mean_in, rows, shown, planted, 
 use Rattle.mlt_tree.specs.Medium.{Medium, makes, hides}
 use Rattle.mlt_tree.specs.Tree.{Tree, Parts, Tracks, Src, Blank, Part, Seq, With, Rows, End, Then, NoTrack, Track, len}
 use Rattle.mlt_start.specs.Code.{code, code_in, rows_code, filter_ops, with_filters, load_of, or_absent}
-use Rattle.mlt_start.specs.Unplanted.{IsUnplanted, AreUnplantedParts, AreUnplantedTracks}
+use Rattle.mlt_tree.specs.Unbuilt.{IsUnplanted, AreUnplantedParts, AreUnplantedTracks}
 use Rattle.mlt_start.proofs.Both.{Both, both-cond, both-or_under, both-map}
 
 -- operations add a register with this

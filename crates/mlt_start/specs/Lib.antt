@@ -3,4 +3,3 @@ pub mod Code
 pub mod Found
 pub mod Names
 pub mod Pushed
-pub mod Unplanted

@@ -3,6 +3,7 @@
 ghost use Rattle.std.specs.Prelude.{◌≡◌, ◌≤◌, ◌<◌, [], ◌∷◌, List, ℕ, length, All};
 ghost use Rattle.mlt_frame.specs.Fits.{Fits};
 ghost use Rattle.mlt_frame.specs.Loads.{loads};
+ghost use Rattle.mlt_frame.specs.Ranges.{IsInRange};
 ghost use Rattle.mlt_frame.specs.Registers.{regs};
 ghost use Rattle.mlt_frame.specs.Stack.{room};
 ghost use Rattle.mlt_tree.specs.Meaning.{Matter, mean};
@@ -10,12 +11,12 @@ ghost use Rattle.mlt_tree.specs.Medium.{Pictures, Sounds};
 ghost use Rattle.mlt_tree.specs.Needs.{needs};
 ghost use Rattle.mlt_tree.specs.Sizes.{need, ops as ops_of};
 ghost use Rattle.mlt_tree.specs.Tree.{len};
+ghost use Rattle.mlt_tree.specs.Unbuilt.{IsUnplanted};
 ghost use Rattle.mlt_graph.specs.Sealed.{tree};
 ghost use Rattle.mlt_start.specs.Asked.{medium_of};
 ghost use Rattle.mlt_start.specs.Code.{code, or_absent};
 ghost use Rattle.mlt_start.specs.Names.{Names};
 ghost use Rattle.mlt_start.specs.Pushed.{IsAbove};
-ghost use Rattle.mlt_start.specs.Unplanted.{HasNoPlant};
 
 use crate::asked::Asked;
 use crate::walk::push_unit;
@@ -40,12 +41,13 @@ fn push_all(sealed: &Sealed, asked: Asked, at: u32, stack: &mut OpStack)
 ///
 /// Only what shows is pushed: no track that another one covers, no hidden track, and no filter outside its
 /// span. The position is below the length of what is played; each stack is empty, with spare for
-/// [`Sealed::ops`] at least. Nothing is planted on the tracks of what is played.
+/// [`Sealed::ops`] at least. Nothing is planted on the tracks of what is played. The numbers of what is pushed
+/// are in their ranges.
 pub fn start(sealed: &Sealed, at: Pos, out: Lease, ops: Ops) -> Frame
     requires at { at.0 < len (tree sealed.now) }
     requires empty { (ops.image.ops ≡ []) × (ops.sound.ops ≡ []) }
     requires spare { (ops_of (tree sealed.now) ≤ ops.image.spare) × (ops_of (tree sealed.now) ≤ ops.sound.spare) }
-    requires plain_plants { All (λ node. HasNoPlant node.body) sealed.now.units }
+    requires unplanted { IsUnplanted (tree sealed.now) }
     ensures at { result.at ≡ at }
     ensures out { result.out ≡ out }
     ensures image { (m : Matter (List ℕ)) → regs m [] result.image.ops ≡ mean Pictures m (tree sealed.now) at.0 ∷ [] }
@@ -57,11 +59,14 @@ pub fn start(sealed: &Sealed, at: Pos, out: Lease, ops: Ops) -> Frame
     ensures room { (room ops.image ≤ room result.image) × (room ops.sound ≤ room result.sound) }
     ensures names_image { All (Names Pictures (tree sealed.now)) result.image.ops }
     ensures names_sound { All (Names Sounds (tree sealed.now)) result.sound.ops }
+    ensures ranges { All IsInRange result.image.ops × All IsInRange result.sound.ops }
 {
     let Ops {
         mut image,
         mut sound,
     } = ops;
+    // tells that all filters of what is played are in their ranges
+    let _ = sealed.units();
     push_all(sealed, Asked::Pictures, at.0, &mut image);
     push_all(sealed, Asked::Sounds, at.0, &mut sound);
     Frame::new(at, image, sound, out)

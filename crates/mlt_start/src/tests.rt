@@ -1,9 +1,10 @@
 //! Started frames as a caller sees them.
 
-ghost use Rattle.std.specs.Prelude.{◌≡◌, ◌+◌, ◌≤◌, ◌<◌, ℕ, All, IfOk};
+ghost use Rattle.std.specs.Prelude.{◌≡◌, ◌+◌, ◌≤◌, ◌<◌, ℕ, IfOk};
 ghost use Rattle.mlt_tree.specs.Edits.{frames_in};
+ghost use Rattle.mlt_tree.specs.Unbuilt.{IsUnplanted};
 ghost use Rattle.mlt_tree.specs.Units.{AreEntriesBelow};
-ghost use Rattle.mlt_start.specs.Unplanted.{HasNoPlant};
+ghost use Rattle.mlt_graph.specs.Sealed.{tree};
 
 use crate::start;
 use mlt_base::{Pos, SourceNo, Span, UnitId};
@@ -47,7 +48,7 @@ fn clip_and_gap(alloc: Global, unit: UnitId) -> Result<ItemList<Entry>, AllocErr
 
 /// A clip of a picture and a gap.
 fn sealed_list(alloc: Global) -> Result<Sealed, AllocError>
-    ensures { IfOk result (λ sealed. All (λ node. HasNoPlant node.body) sealed.units) }
+    ensures { IfOk result (λ sealed. IsUnplanted (tree sealed)) }
 {
     let mut graph = Graph::new(alloc);
     let source = graph.add_source(SourceNo(3), SourceKind::Still, 2)?;

@@ -2,6 +2,7 @@ use Rattle.std.proofs.Common.{◌≤◌, [], length, All, arith, sym, ap, subst,
 use Rattle.mlt_frame.specs.Fits.{Fits}
 use Rattle.mlt_frame.specs.Frame.{FrameParts}
 use Rattle.mlt_frame.specs.Loads.{loads}
+use Rattle.mlt_frame.specs.Ranges.{IsInRange}
 use Rattle.mlt_frame.specs.Registers.{regs}
 use Rattle.mlt_tree.specs.Medium.{Pictures, Sounds}
 use Rattle.mlt_tree.specs.Sizes.{need}
@@ -12,7 +13,7 @@ use Rattle.mlt_start.specs.Names.{Names}
 use Rattle.mlt_start.proofs.Counted.{unit-takes, or_absent-few, or_absent-fits, or_absent-named}
 use Rattle.mlt_start.proofs.Loaded.{loads-code}
 use Rattle.mlt_start.proofs.Meant.{regs-code}
-use Rattle.mlt_start.proofs.Plain.{unit-unplanted}
+use Rattle.mlt_start.proofs.Ranged.{or_absent-in_range}
 use Rattle.mlt_start.proofs.Walked.{alone-above}
 use Rattle.mlt_start.proofs.start_frame.start.Goals as goal
 
@@ -29,21 +30,21 @@ returns-clause-image c =
     let shown = c.args.sealed.now in
     let n = c.args.at.0 in
     let is = ap (λ (f : FrameParts). f.image.ops) c.new.ensures ∙ alone-above (or_absent (code Pictures (tree shown) n)) c.args.ops.image c.push_all.new.stack c.requires.empty.0 c.push_all.ensures in
-    λ m. ap (λ os. regs m [] os) is ∙ regs-code Pictures m (tree shown) (unit-unplanted shown.units c.requires.plain_plants shown.top) n
+    λ m. ap (λ os. regs m [] os) is ∙ regs-code Pictures m (tree shown) c.requires.unplanted n
 
 pub returns-clause-sound : goal.returns-clause-sound
 returns-clause-sound c =
     let shown = c.args.sealed.now in
     let n = c.args.at.0 in
     let is = ap (λ (f : FrameParts). f.sound.ops) c.new.ensures ∙ alone-above (or_absent (code Sounds (tree shown) n)) c.args.ops.sound c.push_all-2.new.stack c.requires.empty.1 c.push_all-2.ensures in
-    λ m. ap (λ os. regs m [] os) is ∙ regs-code Sounds m (tree shown) (unit-unplanted shown.units c.requires.plain_plants shown.top) n
+    λ m. ap (λ os. regs m [] os) is ∙ regs-code Sounds m (tree shown) c.requires.unplanted n
 
 pub returns-clause-loads : goal.returns-clause-loads
 returns-clause-loads c =
     let shown = c.args.sealed.now in
     let n = c.args.at.0 in
     let is = ap (λ (f : FrameParts). f.image.ops) c.new.ensures ∙ alone-above (or_absent (code Pictures (tree shown) n)) c.args.ops.image c.push_all.new.stack c.requires.empty.0 c.push_all.ensures in
-    ap loads is ∙ loads-code (tree shown) (unit-unplanted shown.units c.requires.plain_plants shown.top) n
+    ap loads is ∙ loads-code (tree shown) c.requires.unplanted n
 
 pub returns-clause-fits_image : goal.returns-clause-fits_image
 returns-clause-fits_image c =
@@ -84,4 +85,15 @@ returns-clause-few c =
     let sound = ap (λ (f : FrameParts). f.sound.ops) c.new.ensures ∙ alone-above (or_absent (code Sounds (tree shown) n)) c.args.ops.sound c.push_all-2.new.stack c.requires.empty.1 c.push_all-2.ensures in (
       subst (λ os. length os ≤ ops_of (tree shown)) (sym image) (or_absent-few Pictures (tree shown) n some),
       subst (λ os. length os ≤ ops_of (tree shown)) (sym sound) (or_absent-few Sounds (tree shown) n some),
+    )
+
+pub returns-clause-ranges : goal.returns-clause-ranges
+returns-clause-ranges c =
+    let shown = c.args.sealed.now in
+    let n = c.args.at.0 in
+    let graph = c.units.ensures.sealed.graph in
+    let image = ap (λ (f : FrameParts). f.image.ops) c.new.ensures ∙ alone-above (or_absent (code Pictures (tree shown) n)) c.args.ops.image c.push_all.new.stack c.requires.empty.0 c.push_all.ensures in
+    let sound = ap (λ (f : FrameParts). f.sound.ops) c.new.ensures ∙ alone-above (or_absent (code Sounds (tree shown) n)) c.args.ops.sound c.push_all-2.new.stack c.requires.empty.1 c.push_all-2.ensures in (
+      subst (All IsInRange) (sym image) (or_absent-in_range Pictures shown.units graph shown.top n),
+      subst (All IsInRange) (sym sound) (or_absent-in_range Sounds shown.units graph shown.top n),
     )
