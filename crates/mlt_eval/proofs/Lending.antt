@@ -1,10 +1,10 @@
 -- Blocks that are lent or brought home one by one are lent or brought together.
-use Rattle.std.proofs.Common.{◌≡◌, ◌≢◌, ℕ, zero, suc, ◌+◌, ◌-◌, ◌<◌, ◌≤◌, List, [], ◌∷◌, ◌++◌, All, length, get_or, set, refl, sym, ap, ◌∙◌, subst, inl, inr, ◌⊎◌, arith}
-use Rattle.std.proofs.lemmas.List.{get_or-set_same, set-get_or, set-set, set_past, length-set}
+use Rattle.std.proofs.Common.{◌≡◌, ℕ, zero, suc, ◌+◌, ◌-◌, ◌<◌, ◌≤◌, List, [], ◌∷◌, ◌++◌, All, length, get_or, refl, sym, ap, ◌∙◌, subst, inl, inr, ◌⊎◌, arith}
+use Rattle.std.proofs.lemmas.List.{get_or-set_same, set-get_or, set-set, set_past}
 use Rattle.std.proofs.lemmas.List.Elements.{All-append}
 use Rattle.std.proofs.lemmas.Bool.{cases_lt}
 use Rattle.mlt_eval.specs.Lending.{AreLent}
-use Rattle.mlt_pool.specs.Counts.{Counts, at, with_at, home_of, lent_of, reserved_of, lent_out, brought, IsOneLent}
+use Rattle.mlt_pool.specs.Counts.{Counts, at, with_at, home_of, lent_of, lent_out, brought, IsOneLent}
 
 module _ (class : ℕ) where
   -- no block was lent yet

@@ -1,2 +1,5 @@
+pub mod Cleared
+pub mod Downs
 pub mod Fitting
 pub mod Lending
+pub mod Stepped

@@ -1,5 +1,5 @@
 -- The blocks of a rack.
-use Rattle.std.specs.Prelude.{◌≡◌, ℕ, ◌≤◌, ◌^◌, List, length, All}
+use Rattle.std.specs.Prelude.{◌≡◌, ℕ, List, length, All}
 use Rattle.mlt_eval.specs.declared.register.Register.{Register}
 
 -- the bytes of each block, and how many these are

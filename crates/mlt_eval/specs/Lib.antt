@@ -1,4 +1,9 @@
 pub mod Blocks
+pub mod Down
 pub mod Entries
 pub mod Fitted
 pub mod Lending
+pub mod Pictures
+pub mod Registers
+pub mod Rendered
+pub mod Still

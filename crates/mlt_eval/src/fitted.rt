@@ -56,6 +56,13 @@ impl Fitted {
         self.entries.clear();
     }
 
+    /// How many more pictures can be added.
+    pub fn spare(&self) -> usize
+        ensures { result ≡ self.now.spare }
+    {
+        self.entries.capacity() - self.entries.len()
+    }
+
     /// Adds a picture, behind those that there are. The answer is false exactly where there is no room;
     /// the picture then goes. It takes no memory.
     pub fn add(&mut self, no: SourceNo, still: Arc<Still>) -> bool

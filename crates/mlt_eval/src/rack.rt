@@ -1,12 +1,29 @@
 //! The blocks that pictures are made in.
 
-ghost use Rattle.std.specs.Prelude.{◌≡◌, ◌+◌, ◌^◌, ◌<◌, ◌≤◌, [], length, All, IfOk, IfNone, IfSome, OnErr, vec_len, vec_capacity};
+ghost use Rattle.std.specs.Prelude.{◌≡◌, ◌*◌, ◌^◌, ◌<◌, ◌≤◌, [], length, All, IfOk, IfNone, IfSome, OnErr, vec_len, vec_capacity};
+ghost use Rattle.mlt_base.specs.ProfileView.{measures_of};
+ghost use Rattle.mlt_eval.specs.Fitted.{AreFitted};
 ghost use Rattle.mlt_eval.specs.Lending.{AreLent};
+ghost use Rattle.mlt_eval.specs.Pictures.{top_picture};
+ghost use Rattle.mlt_eval.specs.Still.{IsStill};
+ghost use Rattle.mlt_frame.specs.Fits.{Fits};
+ghost use Rattle.mlt_frame.specs.Loads.{loads};
+ghost use Rattle.mlt_frame.specs.Ranges.{IsInRange};
+ghost use Rattle.mlt_frame.specs.Registers.{regs};
+ghost use Rattle.mlt_graph.specs.Piece.{pixel_bytes};
+ghost use Rattle.mlt_graph.specs.Show.{pix_of};
 ghost use Rattle.mlt_pool.specs.Class.{class_of};
 ghost use Rattle.mlt_pool.specs.Counts.{home_of, lent_of, lent_out, brought};
+ghost use Rattle.mlt_tree.specs.Show.{pixels_of, pictures_of, packed};
 
+use crate::operation::run;
+use crate::packing::pack_register;
 use crate::register::Register;
+use crate::scene::Scene;
+use mlt_frame::Op;
+use mlt_graph::Pix;
 use mlt_pool::{Lease, Pool, class};
+use mlt_slice::Bands;
 use std::alloc::{AllocError, Global};
 use std::marker::Model;
 
@@ -57,6 +74,32 @@ impl Rack {
             blocks,
             registers,
         }))
+    }
+
+    /// Does operations, which leave one picture, and writes that picture.
+    pub(crate) fn draw<B: Bands>(
+        &mut self,
+        scene: &Scene<'_>,
+        bands: &B,
+        ops: &[Op],
+        pix: Pix,
+        out: &mut [u8],
+    )
+        requires fitted { AreFitted (measures_of scene.now.profile.now) scene.now.table.now scene.now.fitted.now.fits }
+        requires size { pixels_of (measures_of scene.now.profile.now) * 4 ≤ self.old.size }
+        requires ranges { All IsInRange ops.now }
+        requires sources { All (λ source. source < length scene.now.table.now) (loads ops.now) }
+        requires fits { Fits (length self.old.blocks) 0 ops.now }
+        requires out { length out.old ≡ pixels_of (measures_of scene.now.profile.now) * pixel_bytes pix }
+        ensures video { out.new ≡ packed (pix_of pix) (top_picture (measures_of scene.now.profile.now) (regs (pictures_of (measures_of scene.now.profile.now) scene.now.table.now) [] ops.now)) }
+        ensures blocks { (self.new.size ≡ self.old.size) × (length self.new.blocks ≡ length self.old.blocks) }
+        ensures still { All (IsStill scene.now.fitted.now.fits) ops.now → self.new.blocks ≡ self.old.blocks }
+    {
+        let size = self.size;
+        let states = self.registers.as_mut_slice();
+        states.fill(Register::Nothing);
+        run(scene, bands, self.blocks.as_mut_slice(), states, size, ops);
+        pack_register(scene, &self.blocks[0], self.registers[0], pix, out);
     }
 
     /// Brings the blocks home. It takes no memory.

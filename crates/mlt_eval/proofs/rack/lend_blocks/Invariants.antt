@@ -1,4 +1,4 @@
-use Rattle.std.proofs.Common.{◌≡◌, ◌+◌, length, All, vec_len, vec_capacity}
+use Rattle.std.proofs.Common.{◌≡◌, length, All, vec_capacity}
 use Rattle.mlt_eval.specs.Lending.{AreLent}
 use Rattle.mlt_pool.specs.Class.{class_of}
 use Rattle.mlt_pool.specs.Counts.{lent_out}
