@@ -1,9 +1,6 @@
 -- Files that are loaded, step by step.
-use Rattle.std.proofs.Common.{ℕ, ◌≡◌, ◌≢◌, ◌≤◌, ◌<◌, ◌⊎◌, inl, inr, Bool, true, false, cond, leb, List, [], ◌∷◌, ◌++◌, length, Option, None, Some, IfSome, IsSomeAnd, Result, Ok, Err, refl, sym, ap, ◌∙◌, subst, arith}
+use Rattle.std.proofs.Common.{ℕ, ◌≡◌, ◌≤◌, ◌<◌, inl, inr, Bool, true, false, cond, leb, List, [], ◌∷◌, ◌++◌, length, Option, None, Some, IfSome, IsSomeAnd, Result, Ok, Err, refl, sym, ap, ◌∙◌, subst, arith}
 use Rattle.std.proofs.lemmas.Bool.Decides.{nat_tests}
-use Rattle.std.specs.declared.alloc.Global.{Global}
-use Rattle.std.specs.Prelude.{Vec}
-use Rattle.mlt_base.specs.declared.fault.PpmFault.{PpmFault}
 use Rattle.mlt_base.specs.Ppm.{ppm}
 use Rattle.mlt_base.specs.Profile.{Measures}
 use Rattle.mlt_base.specs.Still.{Picture}
@@ -24,7 +21,7 @@ use Rattle.melt_build.specs.declared.fault.BuildFault.{BuildFault}
 use Rattle.melt_build.specs.declared.fault.BuildFault.TheVariants.{Refused, SourceFault, Memory}
 use Rattle.melt_build.specs.Failing.{fault_of}
 use Rattle.melt_build.specs.Loads.{names_of, Asks, Tells, Fails, Goes}
-use Rattle.melt_build.proofs.Going.{asks_none, goes_then, fails_first, plain_fails, memory_first, tells_first, tells_second}
+use Rattle.melt_build.proofs.Going.{asks_none, goes_then, fails_first, plain_fails, memory_first, tells_first}
 
 -- ---- one file
 

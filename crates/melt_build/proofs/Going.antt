@@ -1,5 +1,5 @@
 -- Steps of reading, one behind the other, on a host.
-use Rattle.std.proofs.Common.{ℕ, ◌≡◌, ◌+◌, ◌⊎◌, zero, suc, inl, inr, List, [], ◌∷◌, ◌++◌, map, take, length, Option, None, Some, IfSome, IsSomeAnd, Result, Ok, Err, refl, ap, sym, ◌∙◌, subst, arith}
+use Rattle.std.proofs.Common.{ℕ, ◌≡◌, ◌+◌, zero, suc, inl, inr, List, [], ◌∷◌, ◌++◌, take, length, Option, None, Some, IfSome, IsSomeAnd, Result, Ok, Err, refl, ap, sym, ◌∙◌, subst, arith}
 use Rattle.std.proofs.lemmas.List.{append-nil}
 use Rattle.mlt_base.specs.Try as tried
 use Rattle.mlt_base.specs.Try.{TryGives}

@@ -1,5 +1,5 @@
 -- What one load after another leaves on a host.
-use Rattle.std.proofs.Common.{◌≤◌, ◌∙◌, arith}
+use Rattle.std.proofs.Common.{◌∙◌, arith}
 use Rattle.mlt_host.specs.Host.{HostState, OnlyLoads}
 
 pub loads_both : (a b c : HostState) → OnlyLoads a b → OnlyLoads b c → OnlyLoads a c

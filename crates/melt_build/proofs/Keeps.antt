@@ -1,5 +1,5 @@
 -- What holds of each entry of a list holds after an edit, where it holds of what is put in.
-use Rattle.std.proofs.Common.{ℕ, ◌≡◌, ◌+◌, ◌-◌, ◌<◌, ◌≤◌, ◌^◌, ℤ, Bool, true, false, ◌&&◌, cond, ltb, ltb-true, leb, leb-true, List, [], ◌∷◌, ◌++◌, length, take, drop, replicate, slice_get, Option, None, Some, Ok, Err, All, refl, ap, subst, arith, length-take, length-drop}
+use Rattle.std.proofs.Common.{ℕ, ◌≡◌, ◌+◌, ◌-◌, ◌<◌, ◌≤◌, ◌^◌, ℤ, pos, negsuc, Bool, true, false, ◌&&◌, cond, ltb, ltb-true, leb, leb-true, List, [], ◌∷◌, ◌++◌, length, take, drop, replicate, slice_get, Option, None, Some, Ok, Err, All, refl, ap, subst, arith, length-take, length-drop}
 use Rattle.std.proofs.lemmas.Bool.{and_parts}
 use Rattle.std.proofs.lemmas.List.Sums.{sum_by-cons}
 use Rattle.std.proofs.lemmas.List.Elements.{All-nil, All-cons, All-tail, All-head, All-append, All-take, All-drop, All-replicate, All-get_or, All-weaker}
@@ -7,6 +7,9 @@ use Rattle.std.proofs.lemmas.Option.{slice_get_within, get_or_from_slice_get}
 use Rattle.std.specs.Result.{result_unwrap_or}
 use Rattle.mlt_base.specs.Reading.{held}
 use Rattle.mlt_base.specs.declared.faults.PlayFault.{PlayFault}
+use Rattle.mlt_base.specs.declared.value.Span.{Span}
+use Rattle.mlt_base.specs.declared.value.UnitId.{UnitId}
+use Rattle.mlt_tree.specs.declared.tree.Attached.{Attached}
 use Rattle.mlt_tree.specs.declared.entry.Entry.{Entry}
 use Rattle.mlt_tree.specs.declared.entry.Entry.TheVariants.{Clip, Gap}
 use Rattle.mlt_tree.specs.Ranges.{IsEntry, frames}
@@ -52,6 +55,21 @@ entered {A} es at act y fs h = by (slice_get es at) refl h where
   by None is h = absurd (not_refused _ y fs h)
   by (Some e) is h = record { entry = e; here = is; done = h }
 
+-- both halves have a frame
+abbrev IsSplit : ℕ → Option ℕ → Type 0
+IsSplit frames None = Unit {0}
+IsSplit frames (Some count) = (1 ≤ count) × (count < frames)
+
+before_split-inside : (frames : ℕ) (k : ℤ) → IsSplit frames (before_split frames k)
+before_split-inside frames (pos k) = by (ltb (k + 1) frames) refl where
+  by : (b : Bool) → ltb (k + 1) frames ≡ b → IsSplit frames (cond b (Some (k + 1)) None)
+  by true h = (omega arith, ltb-true (k + 1) frames h)
+  by false h = tt
+before_split-inside frames (negsuc k) = by (ltb (k + 1) frames) refl where
+  by : (b : Bool) → ltb (k + 1) frames ≡ b → IsSplit frames (cond b (Some (frames - 1 - k)) None)
+  by true h = let inside : k + 1 < frames = ltb-true (k + 1) frames h in (omega (arith, inside), omega (arith, inside))
+  by false h = tt
+
 module _ (P : Entry → Type 0) where
   at_index : (es : List Entry) (at : ℕ) (e : Entry) → All P es → slice_get es at ≡ Some e → P e
   at_index es at e all h =
@@ -75,19 +93,33 @@ module _ (P : Entry → Type 0) where
       let e = entered es at (λ e. grown tt (replaced es at 1 (replicate n e))) y fs h in
       subst (All P) (grown_is tt y (replaced es at 1 (replicate n e.entry)) fs e.done).1 (keeps_replaced es (replicate n e.entry) at 1 all (All-replicate P n e.entry (at_index es at e.entry all e.here)))
 
-  pub keeps_split : ((e : Entry) (a b : ℕ) → P e → P (cut e a b)) → (at : ℕ) (k : ℤ) (es fs : List Entry) (y : Unit {0}) → All P es → edit.split at k es ≡ answered y fs → All P fs
+  pub keeps_split : ((e : Entry) (a b : ℕ) → 1 ≤ b → b ≤ frames e → P e → P (cut e a b)) → (at : ℕ) (k : ℤ) (es fs : List Entry) (y : Unit {0}) → All P es → edit.split at k es ≡ answered y fs → All P fs
   keeps_split cuts at k es fs y all h =
       let e = entered es at (λ e. by e (before_split (frames e) k)) y fs h in
-      found e.entry (at_index es at e.entry all e.here) (before_split (frames e.entry) k) e.done
+      found e.entry (at_index es at e.entry all e.here) (before_split (frames e.entry) k) (before_split-inside (frames e.entry) k) e.done
     where
       by : Entry → Option ℕ → Edit (Unit {0})
       by e None = Err (PlayFault.BadSplit k (frames e))
       by e (Some count) = grown tt (replaced es at 1 (halves e count))
 
-      found : (e : Entry) → P e → (o : Option ℕ) → by e o ≡ answered y fs → All P fs
-      found e here None h = absurd (not_refused _ y fs h)
-      found e here (Some count) h =
-          subst (All P) (grown_is tt y (replaced es at 1 (halves e count)) fs h).1 (keeps_replaced es (halves e count) at 1 all (All-cons P (cut e 0 count) (cut e count (frames e) ∷ []) (cuts e 0 count here) (All-cons P (cut e count (frames e)) [] (cuts e count (frames e) here) (All-nil P))))
+      found : (e : Entry) → P e → (o : Option ℕ) → IsSplit (frames e) o → by e o ≡ answered y fs → All P fs
+      found e here None inside h = absurd (not_refused _ y fs h)
+      found e here (Some count) inside h =
+          subst (All P) (grown_is tt y (replaced es at 1 (halves e count)) fs h).1 (keeps_replaced es (halves e count) at 1 all (All-cons P (cut e 0 count) (cut e count (frames e) ∷ []) (cuts e 0 count inside.0 (omega (arith, inside.1)) here) (All-cons P (cut e count (frames e)) [] (cuts e count (frames e) (omega (arith, inside.0, inside.1)) (omega arith) here) (All-nil P))))
+
+  pub keeps_attach : ((unit : UnitId) (span : Span) (filters : List Attached) (filter : Attached) → P (Clip unit span filters) → P (Clip unit span (filters ++ filter ∷ []))) → (at : ℕ) (filter : Attached) (es fs : List Entry) (y : Unit {0}) → All P es → edit.attach at filter es ≡ answered y fs → All P fs
+  keeps_attach more at filter es fs y all h =
+      let e = entered es at by y fs h in
+      found e.entry (at_index es at e.entry all e.here) e.done
+    where
+      by : Entry → Edit (Unit {0})
+      by (Clip unit s filters) = Ok (tt, replaced es at 1 (Clip unit s (filters ++ filter ∷ []) ∷ []))
+      by (Gap count) = bad_clip es at
+
+      found : (e : Entry) → P e → by e ≡ answered y fs → All P fs
+      found (Clip unit s filters) here h =
+          subst (All P) (edit_one tt y (replaced es at 1 (Clip unit s (filters ++ filter ∷ []) ∷ [])) fs h).1 (keeps_replaced es (Clip unit s (filters ++ filter ∷ []) ∷ []) at 1 all (All-cons P (Clip unit s (filters ++ filter ∷ [])) [] (more unit s filters filter here) (All-nil P)))
+      found (Gap count) here h = absurd (not_refused _ y fs h)
 
   pub keeps_swap : (es fs : List Entry) (y : Unit {0}) → All P es → edit.swap_last es ≡ answered y fs → All P fs
   keeps_swap es fs y all h = by (drop (length es - 2) es) (All-drop P (length es - 2) es all) h where
@@ -107,17 +139,6 @@ module _ (P : Entry → Type 0) where
         let second : P b = All-head P b rest (All-tail P a (b ∷ rest) some) in
         subst (All P) (edit_one tt y (front ++ (b ∷ a ∷ [])) fs h).1 (All-append P front (b ∷ a ∷ []) (All-take P (length es - 2) es all) (All-cons P b (a ∷ []) second (All-cons P a [] first (All-nil P))))
 
-  -- what is joined is a part of the list
-  pub joined_part : (at n unit : ℕ) (es fs gs : List Entry) → All P es → edit.join at n unit es ≡ answered gs fs → All P gs
-  joined_part at n unit es fs gs all h = by (ltb 0 n && leb (at + n) (length es)) h where
-    part : List Entry
-    part = take n (drop at es)
-
-    by : (b : Bool) → cond b (answered part (replaced es at n (clip unit 0 (frames_in part - 1) [] ∷ []))) (edit.too_few es at (held n)) ≡ answered gs fs → All P gs
-    by true h =
-        subst (All P) (edit_one part gs (replaced es at n (clip unit 0 (frames_in part - 1) [] ∷ [])) fs h).0 (All-take P n (drop at es) (All-drop P at es all))
-    by false h = absurd (not_refused _ gs fs h)
-
   pub keeps_join : (at n unit : ℕ) (es fs gs : List Entry) → All P es → P (clip unit 0 (frames_in (take n (drop at es)) - 1) []) → edit.join at n unit es ≡ answered gs fs → All P fs
   keeps_join at n unit es fs gs all new h = by (ltb 0 n && leb (at + n) (length es)) h where
     part : List Entry
@@ -128,18 +149,32 @@ module _ (P : Entry → Type 0) where
         subst (All P) (edit_one part gs (replaced es at n (clip unit 0 (frames_in part - 1) [] ∷ [])) fs h).1 (keeps_replaced es (clip unit 0 (frames_in part - 1) [] ∷ []) at n all (All-cons P (clip unit 0 (frames_in part - 1) []) [] new (All-nil P)))
     by false h = absurd (not_refused _ gs fs h)
 
+-- what is joined is a part of the list
+pub joined_is : (at n unit : ℕ) (es fs gs : List Entry) → edit.join at n unit es ≡ answered gs fs → take n (drop at es) ≡ gs
+joined_is at n unit es fs gs h = by (ltb 0 n && leb (at + n) (length es)) h where
+  part : List Entry
+  part = take n (drop at es)
+
+  by : (b : Bool) → cond b (answered part (replaced es at n (clip unit 0 (frames_in part - 1) [] ∷ []))) (edit.too_few es at (held n)) ≡ answered gs fs → part ≡ gs
+  by true h = (edit_one part gs (replaced es at n (clip unit 0 (frames_in part - 1) [] ∷ [])) fs h).0
+  by false h = absurd (not_refused _ gs fs h)
+
 -- what is known of an entry is known with more units too
 pub known_more : (n m : ℕ) → n ≤ m → (e : Entry) → IsKnown n e → IsKnown m e
-known_more n m h (Clip unit span filters) known = record { below = omega (arith, known.below); plain = known.plain }
-known_more n m h (Gap count) known = record { below = tt; plain = tt }
+known_more n m h (Clip unit span filters) known = record { below = omega (arith, known.below); short = known.short }
+known_more n m h (Gap count) known = record { below = tt; short = tt }
 
 pub all_known_more : (n m : ℕ) (es : List Entry) → n ≤ m → All (IsKnown n) es → All (IsKnown m) es
 all_known_more n m es h all = All-weaker (IsKnown n) (IsKnown m) (known_more n m h) es all
 
--- a cut is of the same unit, with the same filters
-pub cut_known : (n : ℕ) (e : Entry) (a b : ℕ) → IsKnown n e → IsKnown n (cut e a b)
-cut_known n (Clip unit span filters) a b known = record { below = known.below; plain = known.plain }
-cut_known n (Gap count) a b known = record { below = tt; plain = tt }
+-- a cut is of the same unit, and ends where the entry does or before
+pub cut_known : (n : ℕ) (e : Entry) (a b : ℕ) → 1 ≤ b → b ≤ frames e → IsKnown n e → IsKnown n (cut e a b)
+cut_known n (Clip unit span filters) a b some inside known = record { below = known.below; short = omega (arith, some, inside, known.short) }
+cut_known n (Gap count) a b some inside known = record { below = tt; short = tt }
+
+-- a filter more leaves the unit and the frames
+pub filter_known : (n : ℕ) (unit : UnitId) (span : Span) (filters : List Attached) (filter : Attached) → IsKnown n (Clip unit span filters) → IsKnown n (Clip unit span (filters ++ filter ∷ []))
+filter_known n unit span filters filter known = record { below = known.below; short = known.short }
 
 long_enough : (at n : ℕ) (es : List Entry) → (ltb 0 n && leb (at + n) (length es)) ≡ true → 1 ≤ length (take n (drop at es))
 long_enough at n es tests =

@@ -1,23 +1,21 @@
 -- What is known of a composition's tracks and units.
-use Rattle.std.proofs.Common.{ℕ, ◌≤◌, List, length, map, All, refl, ap, subst, sym}
+use Rattle.std.proofs.Common.{ℕ, ◌≤◌, List, length, map, All, ap, subst, sym}
 use Rattle.std.specs.List.{flat_map}
-use Rattle.std.proofs.lemmas.List.Elements.{All-nil, All-push, All-map, All-weaker}
+use Rattle.std.proofs.lemmas.List.Elements.{All-nil, All-push, All-weaker}
 use Rattle.mlt_tree.specs.declared.draft.Draft.{Draft}
 use Rattle.mlt_tree.specs.declared.entry.Entry.{Entry}
-use Rattle.mlt_tree.specs.Edits.{frames_in}
 use Rattle.mlt_tree.specs.Show.{Source}
 use Rattle.mlt_tree.specs.Sources.{HasPicture, maps_of}
-use Rattle.mlt_tree.specs.Unbuilt.{IsPlainEntry, IsPlainTrack, IsPlainNode}
-use Rattle.mlt_tree.specs.Units.{Level, drafts_of, track_of, attached_within, plant_within, level_frames, tractor_of, list_unit, with_entries, IsEntryBelow}
+use Rattle.mlt_tree.specs.Units.{Level, drafts_of, plant_within, level_frames, tractor_of, with_entries, IsEntryBelow}
 use Rattle.melt_build.specs.declared.state.State.{State}
-use Rattle.melt_build.specs.State.{IsKnown, IsKnownDraft, IsKnownLevel, IsComposed}
+use Rattle.melt_build.specs.State.{IsKnown, IsKnownDraft, IsKnownLevel, IsUnplantedNode, IsComposed}
 use Rattle.melt_build.proofs.Keeps.{all_known_more}
 
 -- with other entries in the last track
 pub known_entries : (count : ℕ) (level : Level) (entries : List Entry) → IsKnownLevel count level → All (IsKnown count) entries → IsKnownLevel count (with_entries level entries)
 known_entries count level entries h known = record {
   closed = h.closed;
-  current = record { entries = known; filters = h.current.filters };
+  current = known;
   plants = h.plants;
 }
 
@@ -25,7 +23,7 @@ pub composed_with : (s : State) (entries : List Entry) → IsComposed s → All 
 composed_with s entries h known = record { made = h.made; level = known_entries (length s.made.graph) s.level entries h.level known }
 
 draft_more : (n m : ℕ) → n ≤ m → (draft : Draft) → IsKnownDraft n draft → IsKnownDraft m draft
-draft_more n m h draft known = record { entries = all_known_more n m draft.entries h known.entries; filters = known.filters }
+draft_more n m h draft known = all_known_more n m draft.entries h known
 
 -- with more units
 pub level_more : (n m : ℕ) (level : Level) → n ≤ m → IsKnownLevel n level → IsKnownLevel m level
@@ -41,25 +39,12 @@ all_drafts count level known = All-push (IsKnownDraft count) level.closed level.
 -- the units of all tracks are there
 pub level_below : (count : ℕ) (level : Level) → IsKnownLevel count level → All (λ draft. All (IsEntryBelow count) draft.entries) (drafts_of level)
 level_below count level known =
-    All-weaker (IsKnownDraft count) (λ draft. All (IsEntryBelow count) draft.entries) (λ draft h. All-weaker (IsKnown count) (IsEntryBelow count) (λ e k. k.below) draft.entries h.entries) (drafts_of level) (all_drafts count level known)
+    All-weaker (IsKnownDraft count) (λ draft. All (IsEntryBelow count) draft.entries) (λ draft h. All-weaker (IsKnown count) (IsEntryBelow count) (λ e k. k.below) draft.entries h) (drafts_of level) (all_drafts count level known)
 
--- ---- what is made has no filter
+-- ---- nothing is planted
 
-plain_entries : (count : ℕ) (es : List Entry) → All (IsKnown count) es → All IsPlainEntry es
-plain_entries count es known = All-weaker (IsKnown count) IsPlainEntry (λ e k. k.plain) es known
-
-pub list_plain : (count : ℕ) (es : List Entry) → All (IsKnown count) es → IsPlainNode (list_unit es)
-list_plain count es known = record { body = plain_entries count es known; filters = refl }
-
-draft_plain : (count : ℕ) (draft : Draft) → IsKnownDraft count draft → IsPlainTrack (track_of draft)
-draft_plain count draft known =
-    record { entries = plain_entries count draft.entries known.entries; filters = ap (map (attached_within (frames_in draft.entries))) known.filters }
-
-pub tractor_plain : (count : ℕ) (level : Level) → IsKnownLevel count level → IsPlainNode (tractor_of level)
-tractor_plain count level known = record {
-  body = (All-map IsPlainTrack track_of (drafts_of level) (All-weaker (IsKnownDraft count) (λ draft. IsPlainTrack (track_of draft)) (draft_plain count) (drafts_of level) (all_drafts count level known)), ap (map (plant_within (level_frames level))) known.plants);
-  filters = refl;
-}
+pub tractor_unplanted : (count : ℕ) (level : Level) → IsKnownLevel count level → IsUnplantedNode (tractor_of level)
+tractor_unplanted count level known = ap (map (plant_within (level_frames level))) known.plants
 
 -- nothing that is planted names a map
 pub no_maps : (table : List Source) (count : ℕ) (level : Level) → IsKnownLevel count level → All (HasPicture table) (flat_map maps_of (map (plant_within (level_frames level)) level.plants))

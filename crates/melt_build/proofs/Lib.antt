@@ -1,3 +1,4 @@
+mod Attached
 mod Filed
 pub mod Going
 mod Hosted

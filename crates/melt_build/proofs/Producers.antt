@@ -1,5 +1,5 @@
 -- A producer's steps, one behind the other, as the code takes them.
-use Rattle.std.proofs.Common.{ℕ, ◌≡◌, List, Result, Ok, Err, refl, ap, sym, ◌∙◌, subst}
+use Rattle.std.proofs.Common.{◌≡◌, Ok, Err, refl, ap, sym, ◌∙◌, subst}
 use Rattle.mlt_base.specs.Try as tried
 use Rattle.mlt_base.specs.Try.{TryGives}
 use Rattle.mlt_base.specs.declared.refusal.Try.{Try}
@@ -14,7 +14,7 @@ use Rattle.melt_build.specs.declared.fault.BuildFault.{BuildFault}
 use Rattle.melt_build.specs.declared.fault.BuildFault.TheVariants.{Refused}
 use Rattle.melt_build.specs.Failing.{fault_of}
 use Rattle.melt_build.specs.Loads.{names_of, Asks, Tells, Fails, Goes}
-use Rattle.melt_build.proofs.Going.{asks_none, goes_then, fails_first, plain_fails, plain_goes, tells_first, tells_second}
+use Rattle.melt_build.proofs.Going.{asks_none, goes_then, fails_first, plain_fails, tells_first}
 
 module _ (files : Files) (s : State) (g : Group) where
   abbrev asked_step : Read (Origin × Wanted)

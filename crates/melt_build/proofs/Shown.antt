@@ -1,5 +1,5 @@
 -- The show of groups: their composition, and then its end.
-use Rattle.std.proofs.Common.{ℕ, ◌≡◌, List, Result, Ok, Err, refl, sym, subst}
+use Rattle.std.proofs.Common.{ℕ, ◌≡◌, List, Ok, Err, refl, sym, subst}
 use Rattle.mlt_base.specs.Try as tried
 use Rattle.mlt_base.specs.declared.refusal.Try.{Try}
 use Rattle.mlt_host.specs.Host.{HostState}

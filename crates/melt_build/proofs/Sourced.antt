@@ -13,9 +13,8 @@ use Rattle.mlt_tree.specs.declared.tree.SourceKind.{SourceKind}
 use Rattle.mlt_tree.specs.Medium.{Pictures, makes}
 use Rattle.mlt_tree.specs.Show.{Source, kind_of}
 use Rattle.mlt_tree.specs.Sources.{HasSource, HasPicture, FitsBody, maps_of}
-use Rattle.mlt_tree.specs.Unbuilt.{IsPlainNode}
 use Rattle.mlt_tree.specs.Units.{source_unit}
-use Rattle.melt_build.specs.State.{FitsUnits}
+use Rattle.melt_build.specs.State.{FitsUnits, IsUnplantedNode}
 use Rattle.melt_build.proofs.Sealed.{fits_more}
 
 longer : {A : Type 0} (xs : List A) (x : A) (i : ℕ) → i < length xs → i < length (xs ++ x ∷ [])
@@ -62,7 +61,7 @@ source_fits table units new number kind frames at is fits =
     let own : HasSource (table ++ new ∷ []) (number.0, kind) = ap (option_map kind_of) (seen_last table new number.0 at) ∙ ap Some (sym is) in
     fits_more (table ++ new ∷ []) units (source_unit number kind frames) own (λ unit node below here. body_more table new node.body (fits unit node below here))
 
--- a unit of a source has no filter
-pub source_plain : (units more : List Node) (number : SourceNo) (kind : SourceKind) (frames : ℕ) → more ≡ units ++ source_unit number kind frames ∷ [] → All IsPlainNode units → All IsPlainNode more
-source_plain units more number kind frames is plain =
-    subst (All IsPlainNode) (sym is) (All-push IsPlainNode units (source_unit number kind frames) plain (record { body = tt; filters = refl }))
+-- nothing is planted on a unit of a source
+pub source_unplanted : (units more : List Node) (number : SourceNo) (kind : SourceKind) (frames : ℕ) → more ≡ units ++ source_unit number kind frames ∷ [] → All IsUnplantedNode units → All IsUnplantedNode more
+source_unplanted units more number kind frames is unplanted =
+    subst (All IsUnplantedNode) (sym is) (All-push IsUnplantedNode units (source_unit number kind frames) unplanted tt)

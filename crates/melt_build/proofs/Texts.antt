@@ -1,5 +1,5 @@
 -- Texts by name, in a bag and in a list of properties.
-use Rattle.std.proofs.Common.{ℕ, ◌≡◌, ◌<◌, ◌+◌, take, get_or, Bool, true, false, cond, List, [], ◌∷◌, ◌++◌, length, fold, bytes_eq, Option, None, Some, option_map, refl, sym, ap, ◌∙◌, arith}
+use Rattle.std.proofs.Common.{ℕ, ◌≡◌, ◌<◌, ◌+◌, take, get_or, Bool, true, false, cond, List, [], ◌∷◌, ◌++◌, length, fold, bytes_eq, Option, None, Some, option_map, IfSome, refl, sym, ap, subst, ◌∙◌, arith}
 use Rattle.std.proofs.lemmas.Grind.{fold-append}
 use Rattle.std.proofs.lemmas.List.{take_more}
 use Rattle.std.specs.Cmp.Lexicographic.{nat_list_eq_equiv}
@@ -44,6 +44,20 @@ text_or (Some p) inherited = refl
 pub text_of_both : (name : List ℕ) (xs ys : List Prop) → text_in name (xs ++ ys) ≡ option_or (text_in name ys) (text_in name xs)
 text_of_both name xs ys =
     ap (option_map (λ p. p.value)) (last_of_both name xs ys) ∙ text_or (last_named name ys) (last_named name xs)
+
+-- ---- the place of the last property of a name
+
+pub place_behind : (name : List ℕ) (front behind : List Prop) (prop : Prop) → Some prop ≡ last_named name behind → IfSome (last_named name (front ++ behind)) (λ last. prop.place ≡ last.place)
+place_behind name front behind prop h =
+    subst (λ o. IfSome o (λ last. prop.place ≡ last.place)) (sym (last_of_both name front behind ∙ ap (λ o. option_or o (last_named name front)) (sym h))) refl
+
+alone_or_none : (b : Bool) (prop : Prop) → IfSome (cond b (Some prop) None) (λ last. prop.place ≡ last.place)
+alone_or_none true prop = refl
+alone_or_none false prop = tt
+
+pub place_in_front : (name : List ℕ) (prop : Prop) (behind : List Prop) → None ≡ last_named name behind → IfSome (last_named name (prop ∷ behind)) (λ last. prop.place ≡ last.place)
+place_in_front name prop behind h =
+    subst (λ o. IfSome o (λ last. prop.place ≡ last.place)) (sym (last_of_both name (prop ∷ []) behind ∙ ap (λ o. option_or o (last_named name (prop ∷ []))) (sym h))) (alone_or_none (bytes_eq prop.name name) prop)
 
 -- a name with a byte is not the empty name
 not_empty : (name empty : List ℕ) → 0 < length name → length empty ≡ 0 → bytes_eq empty name ≡ false

@@ -1,5 +1,5 @@
 -- Edits of the last entry, with the refusals of their groups.
-use Rattle.std.proofs.Common.{ℕ, ◌≡◌, ◌+◌, ◌-◌, ◌<◌, ◌≤◌, take, drop, List, [], ◌∷◌, ◌++◌, length, Result, Ok, Err, All, OnOk, refl, sym, ap, ◌∙◌, subst, arith}
+use Rattle.std.proofs.Common.{ℕ, ◌≡◌, ◌+◌, ◌-◌, ◌<◌, ◌≤◌, ◌^◌, take, drop, List, [], ◌∷◌, ◌++◌, length, Result, Ok, Err, All, OnOk, refl, sym, ap, ◌∙◌, subst, arith}
 use Rattle.std.proofs.lemmas.Grind.{common_steps}
 use Rattle.std.proofs.lemmas.List.Elements.{All-push}
 use Rattle.std.specs.Result.{result_unwrap_or}
@@ -19,21 +19,20 @@ use Rattle.mlt_tree.specs.Edits as edit
 use Rattle.mlt_tree.specs.Edits.{Edit, clip, frames_in}
 use Rattle.mlt_tree.specs.Props.{counted}
 use Rattle.mlt_tree.specs.Refusing.{at_group}
-use Rattle.mlt_tree.specs.Unbuilt.{IsPlainNode}
 use Rattle.mlt_tree.specs.Units.{list_unit, with_entries}
 use Rattle.mlt_playlist.specs.Playlist.{Does, DoesAlways}
 use Rattle.melt_build.specs.Edited.{edited_at}
 use Rattle.melt_build.specs.declared.state.State.{State}
-use Rattle.melt_build.specs.State.{IsComposed, IsKnown, IsKnownLevel, FitsUnits, state_view}
-use Rattle.melt_build.proofs.Keeps.{keeps_join, joined_part}
-use Rattle.melt_build.proofs.Levels.{composed_with, known_entries, level_more, list_plain}
+use Rattle.melt_build.specs.State.{IsComposed, IsKnown, IsKnownLevel, IsUnplantedNode, FitsUnits, state_view}
+use Rattle.melt_build.proofs.Keeps.{keeps_join, joined_is}
+use Rattle.melt_build.proofs.Levels.{composed_with, known_entries, level_more}
 use Rattle.melt_build.proofs.Sealed.{fits_more}
 
 -- with other entries in its track
 abbrev pub changed : State → List Entry → State
 changed s entries = record s { level = with_entries s.level entries }
 
-on_last_is : (s : meaning.State) (g : Group) (act : ℕ → Result meaning.State Refusal) (last : ℕ) → length (track s) ≡ last + 1 → on_last s g act ≡ act last
+pub on_last_is : (s : meaning.State) (g : Group) (act : ℕ → Result meaning.State Refusal) (last : ℕ) → length (track s) ≡ last + 1 → on_last s g act ≡ act last
 on_last_is s g act last h = by (track s) h where
   run : List Entry → Result meaning.State Refusal
   run [] = on_last (with_track s []) g act
@@ -44,7 +43,7 @@ on_last_is s g act last h = by (track s) h where
   by (e ∷ es) h = ap act (omega (arith, h))
 
 module _ {A : Type 0} where
-  edited_gives : (s t : meaning.State) (g : Group) (done : Edit A) (old new : List Entry) (r : Result A (Try PlayFault)) → t ≡ with_track s new → Does done old new r → TryGives (λ x. t) (edited_at g.place r) (edited s g done)
+  pub edited_gives : (s t : meaning.State) (g : Group) (done : Edit A) (old new : List Entry) (r : Result A (Try PlayFault)) → t ≡ with_track s new → Does done old new r → TryGives (λ x. t) (edited_at g.place r) (edited s g done)
   edited_gives s t g done old new (Ok x) is h =
       ap (λ d. meaning.edited s g d) h ∙ ap (λ u. Ok u) (sym is)
   edited_gives s t g done old new (Err (Fault fault)) is h = ap (λ d. meaning.edited s g d) h.0
@@ -84,19 +83,18 @@ last_unit_below : (us : List Node) (u : Node) (unit : ℕ) → unit ≡ length u
 last_unit_below us u unit h = grind (arith, common_steps)
 
 -- with a clip of a new unit of what was joined
-pub joined_composed : (s : State) (units : List Node) (at n unit : ℕ) (new joined : List Entry) → IsComposed s → units ≡ s.made.graph ++ list_unit joined ∷ [] → unit ≡ length s.made.graph → edit.join at n unit s.level.current.entries ≡ Ok (joined, new) → IsComposed (record s { made = record s.made { graph = units }; level = with_entries s.level new })
-joined_composed s units at n unit new joined composed is number done =
+pub joined_composed : (s : State) (units : List Node) (at n unit : ℕ) (new joined : List Entry) → frames_in joined < 2 ^ 31 → IsComposed s → units ≡ s.made.graph ++ list_unit joined ∷ [] → unit ≡ length s.made.graph → edit.join at n unit s.level.current.entries ≡ Ok (joined, new) → IsComposed (record s { made = record s.made { graph = units }; level = with_entries s.level new })
+joined_composed s units at n unit new joined short composed is number done =
     let graph : List Node = s.made.graph in
     let all : List Node = graph ++ list_unit joined ∷ [] in
     let now : IsKnownLevel (length all) s.level = level_more (length graph) (length all) s.level (more_units graph (list_unit joined)) composed.level in
-    let clip_known : IsKnown (length all) (clip unit 0 (frames_in (take n (drop at s.level.current.entries)) - 1) []) = record { below = last_unit_below graph (list_unit joined) unit number; plain = refl } in
-    let known : All (IsKnown (length all)) new = keeps_join (IsKnown (length all)) at n unit s.level.current.entries new joined now.current.entries clip_known done in
-    let old : All (IsKnown (length graph)) joined = joined_part (IsKnown (length graph)) at n unit s.level.current.entries new joined composed.level.current.entries done in
+    let clip_known : IsKnown (length all) (clip unit 0 (frames_in (take n (drop at s.level.current.entries)) - 1) []) = record { below = last_unit_below graph (list_unit joined) unit number; short = subst (λ part. frames_in part - 1 < 2 ^ 31) (sym (joined_is at n unit s.level.current.entries new joined done)) (omega (arith, short)) } in
+    let known : All (IsKnown (length all)) new = keeps_join (IsKnown (length all)) at n unit s.level.current.entries new joined now.current clip_known done in
     record {
       made = record {
         few = composed.made.few;
         fits = subst (FitsUnits s.made.table) (sym is) (fits_more s.made.table graph (list_unit joined) tt composed.made.fits);
-        plain = subst (All IsPlainNode) (sym is) (All-push IsPlainNode graph (list_unit joined) composed.made.plain (list_plain (length graph) joined old));
+        unplanted = subst (All IsUnplantedNode) (sym is) (All-push IsUnplantedNode graph (list_unit joined) composed.made.unplanted tt);
       };
       level = subst (λ us. IsKnownLevel (length us) (with_entries s.level new)) (sym is) (known_entries (length all) s.level new now known);
     }

@@ -1,3 +1,4 @@
+pub mod Attach
 pub mod Built
 pub mod Clips
 pub mod Edited

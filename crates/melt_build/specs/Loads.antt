@@ -1,5 +1,5 @@
 -- How reading goes on a host: which files it asks for, and what comes of it.
-use Rattle.std.specs.Prelude.{ℕ, ◌≡◌, ◌⊎◌, List, [], ◌∷◌, ◌++◌, map, take, Option, Some, Result, Ok, Err, IfSome, IsSomeAnd}
+use Rattle.std.specs.Prelude.{ℕ, ◌≡◌, ◌⊎◌, List, [], ◌∷◌, ◌++◌, map, take, Some, Result, Ok, Err, IfSome, IsSomeAnd}
 use Rattle.mlt_host.specs.Host.{HostState, Rose}
 use Rattle.mlt_tree.specs.Loading as read
 use Rattle.mlt_tree.specs.Loading.{Files, Load, Read}

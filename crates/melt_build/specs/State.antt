@@ -1,16 +1,17 @@
 -- What a composition as far as it is read means.
-use Rattle.std.specs.Prelude.{ℕ, ◌≡◌, ◌<◌, ◌≤◌, List, [], length, get_or, All}
+use Rattle.std.specs.Prelude.{ℕ, ◌≡◌, ◌<◌, ◌≤◌, ◌^◌, List, [], length, get_or, All}
 use Rattle.std.specs.Option.{option_map}
 use Rattle.mlt_tree.specs.declared.limits.TheConstants.{MOST_LOADED}
 use Rattle.mlt_base.specs.ProfileView.{measures_of}
 use Rattle.mlt_tree.specs.declared.draft.Draft.{Draft}
 use Rattle.mlt_tree.specs.declared.entry.Entry.{Entry}
+use Rattle.mlt_tree.specs.declared.entry.Entry.TheVariants.{Clip, Gap}
 use Rattle.mlt_tree.specs.declared.node.Node.{Node}
 use Rattle.mlt_tree.specs.Clips as clip
 use Rattle.mlt_tree.specs.Composition as meaning
 use Rattle.mlt_tree.specs.Show.{Source}
 use Rattle.mlt_tree.specs.Sources.{FitsBody}
-use Rattle.mlt_tree.specs.Unbuilt.{IsPlainEntry, IsPlainNode}
+use Rattle.mlt_tree.specs.Unbuilt.{HasNoPlant}
 use Rattle.mlt_tree.specs.Units.{Level, IsEntryBelow}
 use Rattle.mlt_graph.specs.Show.{pix_of}
 use Rattle.melt_build.specs.declared.consumer.Consumer.{Consumer}
@@ -55,26 +56,34 @@ abbrev pub FitsUnits : List Source → List Node → Type 0
 FitsUnits table units =
     (unit : ℕ) (node : Node) → unit < length units → node ≡ get_or units unit node → FitsBody table node.body
 
--- a cut of a unit that is there, or a gap, with no filter
+-- a cut ends before frame 2^31
+abbrev pub IsShortEntry : Entry → Type 0
+IsShortEntry (Clip unit span filters) = span.last.0 < 2 ^ 31
+IsShortEntry (Gap frames) = Unit {0}
+
+-- a cut of a unit that is there, or a gap
 pub record IsKnown (count : ℕ) (e : Entry) : Type 0 where
   pub below : IsEntryBelow count e
-  pub plain : IsPlainEntry e
+  pub short : IsShortEntry e
 
-pub record IsKnownDraft (count : ℕ) (draft : Draft) : Type 0 where
-  pub entries : All (IsKnown count) draft.entries
-  pub filters : draft.filters ≡ []
+abbrev pub IsKnownDraft : ℕ → Draft → Type 0
+IsKnownDraft count draft = All (IsKnown count) draft.entries
 
--- tracks of such entries, with no filter and nothing planted
+-- tracks of such entries, with nothing planted
 pub record IsKnownLevel (count : ℕ) (level : Level) : Type 0 where
   pub closed : All (IsKnownDraft count) level.closed
   pub current : IsKnownDraft count level.current
   pub plants : level.plants ≡ []
 
--- units and sources that fit each other, with no filter, and not too many bytes loaded
+-- nothing is planted on a unit
+abbrev pub IsUnplantedNode : Node → Type 0
+IsUnplantedNode node = HasNoPlant node.body
+
+-- units and sources that fit each other, with nothing planted, and not too many bytes loaded
 pub record IsMade (made : Made) : Type 0 where
   pub few : made.loaded ≤ MOST_LOADED
   pub fits : FitsUnits made.table made.graph
-  pub plain : All IsPlainNode made.graph
+  pub unplanted : All IsUnplantedNode made.graph
 
 pub record IsComposed (s : State) : Type 0 where
   pub made : IsMade s.made

@@ -2,12 +2,12 @@
 
 ghost use Rattle.std.specs.Prelude.{◌≡◌, find};
 ghost use Rattle.std.specs.Option.{option_copied};
-ghost use Rattle.mlt_tree.specs.Unbuilt.{is_later_prop, is_picture, producer_built, props_built, built, built_step};
+ghost use Rattle.mlt_tree.specs.Unbuilt.{is_later_prop, is_picture, producer_built, props_built, is_picture_filter, filter_built, built, built_step};
 ghost use Rattle.mlt_tree.specs.Services.{producer_of, raw_of};
 ghost use Rattle.mlt_tree.specs.Refusing.{over};
 
-use crate::service::{producer_of, raw_of};
-use mlt_tree::{Cause, Group, GroupKind, Producer, Prop, Refusal};
+use crate::service::{called, filter_named, producer_of, raw_of};
+use mlt_tree::{Cause, FilterKind, Group, GroupKind, Producer, Prop, Refusal};
 
 /// Whether a property of the consumer is not built yet.
 fn is_later_prop(prop: &Prop) -> bool
@@ -68,6 +68,45 @@ fn props_built(group: &Group) -> Result<(), Refusal>
     }
 }
 
+/// Whether a filter is one of pictures.
+fn is_picture_filter(kind: FilterKind) -> bool
+    ensures { result ≡ is_picture_filter kind }
+{
+    match kind {
+        FilterKind::Brightness
+        | FilterKind::Greyscale
+        | FilterKind::Invert
+        | FilterKind::Mirror
+        | FilterKind::Crop
+        | FilterKind::Threshold
+        | FilterKind::Sepia
+        | FilterKind::Obscure
+        | FilterKind::Opacity
+        | FilterKind::SwapChannels => true,
+        FilterKind::Volume
+        | FilterKind::Mono
+        | FilterKind::ChannelCopy
+        | FilterKind::ChannelSwap
+        | FilterKind::Silence => false,
+    }
+}
+
+/// A filter of pictures, or of nothing that is known.
+fn filter_built(group: &Group) -> Result<(), Refusal>
+    ensures { result ≡ filter_built group.now }
+{
+    match filter_named(called(group.arg.as_str()).id) {
+        None => Ok(()),
+        Some(row) => {
+            if is_picture_filter(row.kind) {
+                Ok(())
+            } else {
+                Err(Refusal::at(group.place, Cause::Unsupported))
+            }
+        }
+    }
+}
+
 /// Whether a group is built.
 #[tactic(auto, unfolding(mlt_tree::specs::Unbuilt::built))]
 fn built(group: &Group) -> Result<(), Refusal>
@@ -76,11 +115,9 @@ fn built(group: &Group) -> Result<(), Refusal>
     match group.kind {
         GroupKind::Producer => producer_built(group),
         GroupKind::Consumer => props_built(group),
-        GroupKind::Attach
-        | GroupKind::AttachCut
-        | GroupKind::AttachClip
-        | GroupKind::AttachTrack
-        | GroupKind::Filter
+        GroupKind::Attach | GroupKind::AttachCut | GroupKind::AttachClip | GroupKind::AttachTrack =>
+            filter_built(group),
+        GroupKind::Filter
         | GroupKind::Transition
         | GroupKind::Mix
         | GroupKind::Mixer

@@ -83,7 +83,7 @@ fn length_by(own: u32, last: Option<u32>, length: Option<u32>) -> u32
     }
 }
 
-impl Given<'_, '_> {
+impl Given<'_, '_, '_> {
     /// The frames and the length that the properties ask for.
     #[tactic(auto, unfolding(mlt_tree::specs::Clips::wanted_by))]
     fn wanted_by(&self, profile: &Profile) -> Result<Wanted, Refusal>
@@ -179,6 +179,7 @@ impl State<'_> {
         };
         let origin = origin_of(group.place, named)?;
         let given = Given {
+            front: None,
             inherited: &self.inherited,
             own,
         };
@@ -196,7 +197,7 @@ impl State<'_> {
     ) -> Result<(), Try<Refusal>>
         requires composed { IsComposed self.old }
         requires there { product.unit.0 < length self.old.made.graph }
-        requires frames { 1 ≤ product.frames }
+        requires frames { (1 ≤ product.frames) × (product.frames < 2 ^ 31) }
         ensures value { TryGives (λ _. state_view self.new) result
             (meaning.clip_added (state_view self.old) group.now (product_view self.old.made product) (wanted_view asked)) }
         ensures composed { OnOk result (IsComposed self.new) }

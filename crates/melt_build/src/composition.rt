@@ -117,6 +117,7 @@ impl<'a> State<'a> {
         let own = Object::read(alloc, group.props.as_slice())?;
         let none = Object::none(alloc);
         let given = Given {
+            front: None,
             inherited: &none,
             own: &own,
         };
@@ -156,11 +157,10 @@ impl<'a> State<'a> {
             GroupKind::Split => self.split(group),
             GroupKind::Swap => self.swap(group),
             GroupKind::Consumer => self.consume(alloc, group),
-            GroupKind::Attach
-            | GroupKind::AttachCut
-            | GroupKind::AttachClip
-            | GroupKind::AttachTrack
-            | GroupKind::Filter
+            GroupKind::Attach | GroupKind::AttachCut => self.attach(alloc, group),
+            GroupKind::AttachClip => self.attach_clip(alloc, group),
+            GroupKind::AttachTrack => self.attach_track(alloc, group),
+            GroupKind::Filter
             | GroupKind::Transition
             | GroupKind::Mix
             | GroupKind::Mixer

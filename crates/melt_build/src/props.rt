@@ -1,19 +1,21 @@
 //! The values of properties: of several with one name the last counts, and a fault is at its own word.
 
-ghost use Rattle.std.specs.Prelude.{◌≡◌, ◌≤◌, ◌<◌, ◌^◌, ◌++◌, ℕ, length, IfOk, IfSome, IsSome, IsTrue, fold};
+ghost use Rattle.std.specs.Prelude.{◌≡◌, ◌≤◌, ◌<◌, ◌^◌, ◌++◌, ℕ, length, All, IfOk, IfSome, IsSome, IsTrue, fold};
 ghost use Rattle.std.specs.Option.{option_copied};
 ghost use Rattle.mlt_base.specs.Name.{is_spelled};
 ghost use Rattle.mlt_base.specs.ProfileView.{measures_of};
+ghost use Rattle.mlt_base.specs.Try.{TryGives};
 ghost use Rattle.mlt_tree.specs.Props as meaning;
-ghost use Rattle.mlt_tree.specs.Props.{later as later_of, last_named, counted as counted_of, distant as distant_of, timed as timed_of, within as within_of, distance_within, chosen as chosen_of};
-ghost use Rattle.melt_build.specs.Given.{props_in};
+ghost use Rattle.mlt_tree.specs.Props.{later as later_of, last_named, counted as counted_of, distant as distant_of, timed as timed_of, within as within_of, distance_within, chosen as chosen_of, keyed as keyed_of, channel_of, channels_of, lettered as lettered_of};
+ghost use Rattle.melt_build.specs.Given.{front_in, behind_front, props_in};
 ghost use Rattle.melt_build.specs.Object.{text_in};
 ghost use Rattle.melt_build.specs.Reads.{at_place};
 
 use crate::object::Object;
 use crate::refused;
-use mlt_base::{Profile, read_time, read_whole};
-use mlt_tree::{Cause, Choice, Count, Distance, Moment, Number, Prop, Refusal};
+use mlt_base::{Animation, Name, Profile, Try, read_time, read_whole};
+use mlt_tree::{Animated, Cause, Choice, Count, Distance, Letters, Moment, Number, Prop, Refusal};
+use std::alloc::Global;
 
 /// This property where it has the name, else the one found before.
 fn later<'a>(found: Option<&'a Prop>, prop: &'a Prop, name: &str) -> Option<&'a Prop>
@@ -120,22 +122,128 @@ fn chosen(row: &Choice, text: &str) -> Result<bool, Cause>
     }
 }
 
-/// The properties that an object is given: those that it inherits, and then its own.
+/// A text as a number that may go from key to key, for the word at a place.
+#[tactic(auto, unfolding(mlt_tree::specs::Props::keyed))]
+fn keyed(alloc: Global, place: u32, text: &str) -> Result<Animation, Try<Refusal>>
+    ensures { TryGives (λ keys. keys) result (keyed_of place text.now) }
+{
+    match Animation::read(alloc, text) {
+        Ok(keys) => Ok(keys),
+        Err(Try::Fault(fault)) => Err(Try::Fault(Refusal::at(place, Cause::from(fault)))),
+        Err(Try::Memory) => Err(Try::Memory),
+    }
+}
+
+/// A channel by its letter.
+fn channel_of(letter: u8) -> Option<u8>
+    ensures value { result ≡ channel_of letter }
+    ensures range { IfSome result (λ channel. channel < 4) }
+{
+    match letter {
+        b'r' => Some(0),
+        b'g' => Some(1),
+        b'b' => Some(2),
+        b'a' => Some(3),
+        _ => None,
+    }
+}
+
+/// The channels of four letters.
+fn channels_of(letters: &[u8]) -> Option<[u8; 4]>
+    requires { length letters.now ≡ 4 }
+    ensures value { result ≡ channels_of letters.now }
+    ensures range { IfSome result (All (λ channel. channel < 4)) }
+{
+    let first = channel_of(letters[0])?;
+    let second = channel_of(letters[1])?;
+    let third = channel_of(letters[2])?;
+    let fourth = channel_of(letters[3])?;
+    Some([first, second, third, fourth])
+}
+
+/// A text as a letter for each of the four channels, for the word at a place.
+#[tactic(auto, unfolding(mlt_tree::specs::Props::lettered))]
+fn lettered(place: u32, text: &str) -> Result<[u8; 4], Refusal>
+    ensures value { result ≡ lettered_of place text.now }
+    ensures range { IfOk result (All (λ channel. channel < 4)) }
+{
+    let letters = text.as_bytes();
+    if letters.len() != 4 {
+        return Err(Refusal::at(place, Cause::BadValue));
+    }
+    match channels_of(letters) {
+        Some(order) => Ok(order),
+        None => Err(Refusal::at(place, Cause::BadValue)),
+    }
+}
+
+/// The value behind the `:` of a group's word, as that of a property, by the place of the word.
 #[derive(Clone, Copy)]
-pub(crate) struct Given<'b, 'a> {
+pub(crate) struct Front<'v> {
+    pub place: u32,
+    pub name: Name,
+    pub value: &'v str,
+}
+
+/// The properties that an object is given: the one that its word holds, then those that it inherits, and then its
+/// own.
+#[derive(Clone, Copy)]
+pub(crate) struct Given<'v, 'b, 'a> {
+    pub front: Option<Front<'v>>,
     pub inherited: &'b Object<'a>,
     pub own: &'b Object<'a>,
 }
 
-impl Given<'_, '_> {
+impl Given<'_, '_, '_> {
+    /// The text of the property that the word holds, if it has this name.
+    fn front_text(&self, name: &str) -> Option<&str>
+        ensures { option_copied result ≡ text_in name.now (front_in self.now.front) }
+    {
+        match self.front {
+            None => None,
+            Some(front) => {
+                if front.name.as_bytes() == name.as_bytes() {
+                    Some(front.value)
+                } else {
+                    None
+                }
+            }
+        }
+    }
+
+    /// The text of a name behind the one that the word holds, where there is one.
+    fn later_text(&self, name: &str) -> Option<&str>
+        requires { 0 < length name.now }
+        ensures { option_copied result ≡ text_in name.now (behind_front self.now) }
+    {
+        match self.own.text(name) {
+            Some(text) => Some(text),
+            None => self.inherited.text(name),
+        }
+    }
+
     /// The text of a name, where there is one.
     fn text(&self, name: &str) -> Option<&str>
         requires { 0 < length name.now }
         ensures { option_copied result ≡ text_in name.now (props_in self.now) }
     {
-        match self.own.text(name) {
+        match self.later_text(name) {
             Some(text) => Some(text),
-            None => self.inherited.text(name),
+            None => self.front_text(name),
+        }
+    }
+
+    /// The place of the last property of a name, which is given.
+    fn place_of(&self, name: &str) -> u32
+        requires { IsSome (last_named name.now (props_in self.now)) }
+        ensures { IfSome (last_named name.now (props_in self.now)) (λ prop. result ≡ prop.place) }
+    {
+        match last_named(self.inherited.words, self.own.words, name) {
+            Some(prop) => prop.place,
+            None => match self.front {
+                Some(front) => front.place,
+                None => unreachable!(),
+            },
         }
     }
 
@@ -144,9 +252,33 @@ impl Given<'_, '_> {
         requires { IsSome (last_named name.now (props_in self.now)) }
         ensures { IfSome (last_named name.now (props_in self.now)) (λ prop. result ≡ at_place prop.place read) }
     {
-        match last_named(self.inherited.words, self.own.words, name) {
-            Some(prop) => refused::at_place(prop.place, read),
-            None => unreachable!(),
+        refused::at_place(self.place_of(name), read)
+    }
+
+    /// The number of a row, which may go from key to key, or its default.
+    pub(crate) fn animated(&self, alloc: Global, row: &Animated) -> Result<Animation, Try<Refusal>>
+        requires name { IsTrue (is_spelled row.now.name) }
+        requires default { IsTrue (is_spelled row.now.default) }
+        ensures { TryGives (λ keys. keys) result (meaning.animated row.now (props_in self.now)) }
+    {
+        let name = row.name.as_str();
+        match self.text(name) {
+            None => keyed(alloc, 0, row.default.as_str()),
+            Some(text) => keyed(alloc, self.place_of(name), text),
+        }
+    }
+
+    /// The four channels of a row, or their default.
+    pub(crate) fn letters(&self, row: &Letters) -> Result<[u8; 4], Refusal>
+        requires name { IsTrue (is_spelled row.now.name) }
+        requires default { IsTrue (is_spelled row.now.default) }
+        ensures value { result ≡ meaning.letters row.now (props_in self.now) }
+        ensures range { IfOk result (All (λ channel. channel < 4)) }
+    {
+        let name = row.name.as_str();
+        match self.text(name) {
+            None => lettered(0, row.default.as_str()),
+            Some(text) => lettered(self.place_of(name), text),
         }
     }
 

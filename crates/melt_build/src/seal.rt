@@ -6,7 +6,7 @@ ghost use Rattle.mlt_base.specs.declared.limits.TheConstants.{MOST_WRITTEN};
 ghost use Rattle.mlt_base.specs.ProfileView.{measures_of};
 ghost use Rattle.mlt_base.specs.Try.{Gives, TryGives};
 ghost use Rattle.mlt_tree.specs.Composition.{State as StateOf};
-ghost use Rattle.mlt_tree.specs.Sealing.{unit_of, bytes_of, few_frames as few_frames_of, few_bytes as few_bytes_of, ranged as ranged_of, sealable, show_of_tree as show_of_tree_of, seal as seal_of, settings_of, default_consumer as default_of};
+ghost use Rattle.mlt_tree.specs.Sealing.{bytes_of, few_frames as few_frames_of, few_bytes as few_bytes_of, ranged as ranged_of, sealable, show_of_tree as show_of_tree_of, seal as seal_of, settings_of, default_consumer as default_of};
 ghost use Rattle.mlt_tree.specs.Sources.{Fits};
 ghost use Rattle.mlt_tree.specs.Tree.{len};
 ghost use Rattle.mlt_tree.specs.Unbuilt.{IsPlayed};
@@ -22,20 +22,10 @@ use crate::state::{Made, State};
 use crate::wanted::Cut;
 use mlt_base::limits::{MOST_BYTES, MOST_WRITTEN};
 use mlt_base::{Pos, Profile, Text, Try};
-use mlt_graph::{Format, Graph, GraphFault, Level, Output, Pix, Sealed, Show};
+use mlt_graph::{Format, Graph, GraphFault, Level, Output, Pix, Sealed, Show, unit_of};
 use mlt_source::SourceTable;
 use mlt_tree::{Cause, Refusal, services as row};
 use std::alloc::{AllocError, Global};
-
-/// The bytes of one picture or of one pair's sound in a frame, whichever is more.
-fn unit_of(profile: &Profile) -> u64
-    ensures value { result ≡ unit_of (measures_of profile.now) }
-    ensures small { result ≤ 2 ^ 26 }
-{
-    let picture = u64::from(profile.width) * u64::from(profile.height) * 4;
-    let sound = 4 * u64::from(profile.most_samples());
-    picture.max(sound)
-}
 
 /// The bytes that a run holds at most, where one evaluation holds so many buffers.
 fn bytes_of(profile: &Profile, c: &Consumer<'_>, need: u32) -> u64
@@ -43,7 +33,8 @@ fn bytes_of(profile: &Profile, c: &Consumer<'_>, need: u32) -> u64
     ensures { result ≡ bytes_of (measures_of profile.now) (consumer_view c.now) need }
 {
     let hands = u64::from(c.workers) + 1;
-    unit_of(profile) * (u64::from(c.buffer) + hands * u64::from(need) + u64::from(c.cache))
+    u64::from(unit_of(profile))
+        * (u64::from(c.buffer) + hands * u64::from(need) + u64::from(c.cache))
 }
 
 /// A range of not too many frames.

@@ -1,14 +1,14 @@
-//! The producer or the consumer that a word names, and its argument.
+//! The producer, the filter or the consumer that a word names, and its argument.
 
 ghost use Rattle.std.specs.Prelude.{◌≡◌, nat_eq, find};
 ghost use Rattle.std.specs.Option.{option_map, option_copied};
 ghost use Rattle.mlt_base.specs.SplitOnce.{split_once};
-ghost use Rattle.mlt_tree.specs.Services.{is_id, ends_in, producer_named, producer_of_file, stands_alone, with_arg, producer_of, raw_of, colour_name, output_name, by_id, raw_by_id};
-ghost use Rattle.melt_build.specs.Service.{named_view};
+ghost use Rattle.mlt_tree.specs.Services.{is_id, ends_in, producer_named, producer_of_file, stands_alone, with_arg, producer_of, raw_of, colour_name, output_name, by_id, raw_by_id, called, is_filter, filter_named};
+ghost use Rattle.melt_build.specs.Service.{named_view, called_view};
 
 use mlt_base::Name;
 use mlt_tree::Producer;
-use mlt_tree::services::{PRODUCERS, ProducerRow, RAW};
+use mlt_tree::services::{FILTERS, FilterRow, PRODUCERS, ProducerRow, RAW};
 
 /// A producer and its argument.
 #[derive(Clone, Copy)]
@@ -157,4 +157,46 @@ pub(crate) fn raw_of(word: &str) -> Option<&str>
         return Some("-");
     }
     raw_by_id(word)
+}
+
+/// The id of a word, and what stands behind the first `:`, where there is one.
+#[derive(Clone, Copy)]
+pub(crate) struct IdAndValue<'a> {
+    pub id: &'a str,
+    pub value: Option<&'a str>,
+}
+
+/// The id of a word and its value.
+pub(crate) fn called(word: &str) -> IdAndValue<'_>
+    ensures { called_view result ≡ called word.now }
+{
+    match split_once(word) {
+        None => IdAndValue {
+            id: word,
+            value: None,
+        },
+        Some((id, value)) => IdAndValue {
+            id,
+            value: Some(value),
+        },
+    }
+}
+
+/// The row of a filter's id.
+fn row_of_filter(rows: &[FilterRow], id: &str) -> Option<FilterRow>
+    ensures { result ≡ find (is_filter id.now) rows.now }
+{
+    for row in rows {
+        if row.name.as_bytes() == id.as_bytes() {
+            return Some(*row);
+        }
+    }
+    None
+}
+
+/// The filter of an id.
+pub(crate) fn filter_named(id: &str) -> Option<FilterRow>
+    ensures { result ≡ filter_named id.now }
+{
+    row_of_filter(&FILTERS, id)
 }

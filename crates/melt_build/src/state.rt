@@ -70,7 +70,7 @@ impl<'a> State<'a> {
     fn raw_output(
         &mut self,
         group: &Group,
-        given: Given<'_, '_>,
+        given: Given<'_, '_, '_>,
         video: &'a str,
     ) -> Result<(), Refusal>
         requires composed { IsComposed self.old }
@@ -101,7 +101,11 @@ impl<'a> State<'a> {
 
     /// The first consumer; a second is refused.
     #[tactic(auto, unfolding(mlt_tree::specs::Composition::consumer))]
-    pub(crate) fn consumer(&mut self, group: &'a Group, given: Given<'_, '_>) -> Result<(), Refusal>
+    pub(crate) fn consumer(
+        &mut self,
+        group: &'a Group,
+        given: Given<'_, '_, '_>,
+    ) -> Result<(), Refusal>
         requires composed { IsComposed self.old }
         requires own { props_in given ≡ group.now.props }
         ensures value { Gives (λ _. state_view self.new) result (consumer_of (state_view self.old) group.now) }

@@ -133,7 +133,7 @@ fn reads_each_property_at_its_ends(rt: HostRuntime) -> Result<(), Fail> {
 fn refuses_each_property_past_its_ends(rt: HostRuntime) -> Result<(), Fail> {
     let alloc = rt.alloc();
     // A property of the word at place 4, its value, and its ends.
-    let rows: [(&str, i64, i64, i64); 10] = [
+    let rows: [(&str, i64, i64, i64); 16] = [
         ("-consumer raw:v real_time=-17", -17, -16, 16),
         ("-consumer raw:v real_time=17", 17, -16, 16),
         ("-consumer raw:v buffer=0", 0, 1, 64),
@@ -142,6 +142,12 @@ fn refuses_each_property_past_its_ends(rt: HostRuntime) -> Result<(), Fail> {
         ("-consumer raw:v slices=17", 17, 1, 16),
         ("-consumer raw:v cache=-1", -1, 0, 64),
         ("-consumer raw:v cache=65", 65, 0, 64),
+        ("-attach-track crop left=-1", -1, 0, 4096),
+        ("-attach-track crop right=4097", 4097, 0, 4096),
+        ("-attach-track crop top=4097", 4097, 0, 4096),
+        ("-attach-track crop bottom=4097", 4097, 0, 4096),
+        ("-attach-track threshold midpoint=256", 256, 0, 255),
+        ("-attach-track obscure size=0", 0, 1, 4096),
         ("-quiet colour:red length=0", 0, 1, 2147483647),
         (
             "-quiet colour:red length=2147483648",

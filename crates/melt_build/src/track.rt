@@ -123,7 +123,7 @@ impl State<'_> {
 }
 
 /// There is no entry.
-fn no_entry(place: u32) -> Refusal
+pub(crate) fn no_entry(place: u32) -> Refusal
     ensures { result ≡ refusal_of place (Cause.TooFew 1 0) }
 {
     Refusal::at(place, Cause::TooFew { asked: 1, there: 0 })

@@ -1,10 +1,11 @@
-//! What a producer's word asks for, and what it has made.
+//! What the words of producers and filters ask for, and what they have made.
 
 ghost use Rattle.std.specs.Prelude.{ℕ, ◌≤◌, ◌<◌, ◌^◌, IfSome};
 ghost use Rattle.std.proofs.Props.{props};
 
-use mlt_base::UnitId;
+use mlt_base::{Span, UnitId};
 use mlt_image::Colour;
+use mlt_tree::FilterSpec;
 
 /// The first and the last frame of a cut.
 #[derive(Clone, Copy)]
@@ -36,4 +37,20 @@ pub(crate) struct Wanted {
 pub(crate) struct Product {
     pub unit: UnitId,
     pub frames: u32,
+}
+
+/// The filter that a word asks for, from its first position to its last where that is given.
+#[derive(Drop)]
+pub(crate) struct Asked {
+    pub spec: FilterSpec,
+    pub first: u32,
+    pub last: Option<u32>,
+}
+
+/// The clip that stands last on a track, by its index, its unit and its frames.
+#[derive(Clone, Copy)]
+pub(crate) struct LastClip {
+    pub index: usize,
+    pub unit: UnitId,
+    pub span: Span,
 }

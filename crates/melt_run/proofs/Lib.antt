@@ -1,6 +1,6 @@
 mod Asked
+mod Blocks
 mod Counted
-mod Drawn
 mod Fronted
 mod Hosts
 mod Lent
@@ -8,7 +8,6 @@ mod Lifts
 mod Loaded
 mod Named
 mod Outcomes
-mod Painted
+mod Pictured
 mod Played
 mod Tallies
-mod Walked

@@ -1,13 +1,11 @@
 pub mod Ends
-pub mod Found
 pub mod Lending
 pub mod Outcome
 pub mod Pieces
-pub mod Pixels
 pub mod Play
 pub mod Prepared
 pub mod Prints
-pub mod Seen
+pub mod Ready
 pub mod Show
 pub mod Status
 pub mod Text

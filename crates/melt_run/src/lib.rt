@@ -5,7 +5,6 @@
 //! and [`text`]; the relations that their clauses cite stand in `specs/`. Only the program stands above.
 #![tactic(auto)]
 
-mod draw;
 pub mod gate;
 pub mod line;
 pub mod play;
@@ -13,7 +12,6 @@ pub mod prepared;
 pub mod run;
 pub mod status;
 pub mod text;
-mod walk;
 
 pub use gate::{Free, Gate};
 pub use mlt_tree::QueryKind;

@@ -1,7 +1,10 @@
 //! Plays a show on the calling thread, frame after frame.
 
-ghost use Rattle.std.specs.Prelude.{◌≡◌, ◌≤◌, ◌+◌, ◌*◌, ◌^◌, ◌<◌, IfOk, OnOk, OnErr, length, take};
+ghost use Rattle.std.specs.Prelude.{◌≡◌, ◌≤◌, ◌+◌, ◌^◌, ◌<◌, All, OnOk, OnErr, length};
 ghost use Rattle.mlt_base.specs.declared.port.Port.TheVariants.{Video};
+ghost use Rattle.mlt_base.specs.ProfileView.{measures_of};
+ghost use Rattle.mlt_eval.specs.Fitted.{AreFitted};
+ghost use Rattle.mlt_frame.specs.Loads.{loads as loads_of};
 ghost use Rattle.mlt_host.specs.Host.{Appends, AppendsFront, Counts, OnlyPort};
 ghost use Rattle.mlt_pool.specs.Class.{class_of};
 ghost use Rattle.mlt_pool.specs.Counts.{home_of, all_lent};
@@ -11,18 +14,22 @@ ghost use Rattle.mlt_graph.specs.Show.{meant};
 ghost use Rattle.mlt_tree.specs.Show.{video_of};
 ghost use Rattle.mlt_tree.specs.Needs.{needs};
 ghost use Rattle.mlt_tree.specs.Sources.{Fits};
-ghost use Rattle.mlt_tree.specs.Unbuilt.{IsPlain, IsPlayed};
-ghost use Rattle.melt_run.specs.Pixels.{picture_bytes};
+ghost use Rattle.mlt_tree.specs.Tree.{len};
+ghost use Rattle.mlt_tree.specs.Unbuilt.{IsPlayed};
 ghost use Rattle.melt_run.specs.Lending.{LendsAlike};
 ghost use Rattle.melt_run.specs.Play.{Plays, KeepsElse};
+ghost use Rattle.melt_run.specs.Ready.{IsRackOf, AreStacksOf, IsPlayable};
 
-use crate::draw::{draw, fitted_bytes, picture_bytes};
 use crate::status::{Status, Tally};
-use mlt_base::Port;
-use mlt_graph::Show;
+use mlt_base::{Port, Pos, Profile, SourceNo};
+use mlt_eval::{Fitted, Rack, render};
+use mlt_frame::{Op, Ops};
+use mlt_graph::{Show, unit_of};
 use mlt_host::{Failed, Host};
-use mlt_pool::{Lease, Pool, class};
+use mlt_pool::{Pool, class};
+use mlt_slice::Alone;
 use mlt_source::SourceTable;
+use mlt_start::start;
 use std::alloc::Global;
 
 /// The accounts of a run whose frames were all appended, made of so many pictures.
@@ -61,153 +68,230 @@ fn piece(show: &Show) -> usize
     show.output.piece(&show.profile) as usize
 }
 
-/// Draws a position into the buffer, and answers how many pictures it was made of.
-fn draw_into(show: &Show, table: &SourceTable, at: u32, space: &mut [u8], lease: &mut Lease) -> u64
-    requires space { length space.old ≡ show.now.profile.width * show.now.profile.height * 4 }
-    requires length { length lease.old ≡ piece_of show.now.output show.now.profile }
-    requires plain { IsPlain (tree show.now.sealed) }
-    ensures picture { take (picture_bytes show.now) lease.new ≡ video_of (meant show.now table.now) at }
-    ensures length { length lease.new ≡ length lease.old }
-    ensures space { length space.new ≡ length space.old }
-    ensures loads { result ≡ length (needs (tree show.now.sealed) at) }
-    ensures most { result ≤ 1 }
-{
-    draw(show, table, at, space, lease.bytes_mut())
+/// Whether operations load more pictures that are not kept than there are places left. It decides only how often
+/// a picture is fitted.
+fn is_short(ops: &[Op], fitted: &Fitted) -> bool {
+    let mut spare = fitted.spare();
+    for op in ops {
+        if let Op::Load { source, at: _ } = op {
+            if fitted.find(*source).is_none() {
+                if spare == 0 {
+                    return true;
+                }
+                spare -= 1;
+            }
+        }
+    }
+    false
 }
 
-/// Draws a position into a buffer that the pool lends, appends its picture, and takes the buffer home,
-/// whatever the host answers. It answers how many pictures the position was made of.
+/// Fits the picture of a source and keeps it, unless it is kept, or there is no place or no memory for it.
+fn keep_one(
+    alloc: Global,
+    table: &SourceTable,
+    profile: &Profile,
+    fitted: &mut Fitted,
+    no: SourceNo,
+)
+    requires there { no.0 < length table.now }
+    requires fitted { AreFitted (measures_of profile.now) table.now fitted.old.fits }
+    ensures { AreFitted (measures_of profile.now) table.now fitted.new.fits }
+{
+    if fitted.find(no).is_some() || fitted.spare() == 0 {
+        return;
+    }
+    if let Ok(picture) = Fitted::make(alloc, table, no, profile) {
+        let _ = fitted.add(no, picture);
+    }
+}
+
+/// Fits the pictures that operations load and keeps them, so that a picture isn't fitted anew for each frame.
+/// Where they don't find room beside those that are kept, these go first.
+fn keep(alloc: Global, table: &SourceTable, profile: &Profile, fitted: &mut Fitted, ops: &[Op])
+    requires there { All (λ source. source < length table.now) (loads_of ops.now) }
+    requires fitted { AreFitted (measures_of profile.now) table.now fitted.old.fits }
+    ensures { AreFitted (measures_of profile.now) table.now fitted.new.fits }
+{
+    if is_short(ops, fitted) {
+        fitted.clear();
+    }
+    for op in ops {
+        if let Op::Load { source, at: _ } = op {
+            keep_one(alloc, table, profile, fitted, *source);
+        }
+    }
+}
+
+/// Starts and renders a position into a buffer that the pool lends, appends its picture, and takes the buffer
+/// home, whatever the host answers. It answers that, how many pictures the position was made of, and the stacks
+/// that it was handed, emptied.
 fn play_frame<H: Host>(
+    alloc: Global,
     show: &Show,
     table: &SourceTable,
     at: u32,
     host: &mut H,
     pool: &mut Pool,
-    space: &mut [u8],
-) -> Result<u64, Failed>
-    requires space { length space.old ≡ show.now.profile.width * show.now.profile.height * 4 }
+    rack: &mut Rack,
+    fitted: &mut Fitted,
+    ops: Ops,
+) -> (Result<(), Failed>, u32, Ops)
+    requires playable { IsPlayable show.now table.now }
+    requires at { at < len (tree show.now.sealed) }
     requires block { 0 < home_of pool.old (class_of (piece_of show.now.output show.now.profile)) }
-    requires plain { IsPlain (tree show.now.sealed) }
-    ensures ok { OnOk result (Appends Video (H.state host.old) (H.state host.new) (video_of (meant show.now table.now) at)) }
-    ensures failed { OnErr result (AppendsFront Video (H.state host.old) (H.state host.new) (video_of (meant show.now table.now) at)) }
-    ensures loads { IfOk result (λ loads. (loads ≡ length (needs (tree show.now.sealed) at)) × (loads ≤ 1)) }
-    ensures cause { Counts ((H.state host.old).faults Video) ((H.state host.new).faults Video) result }
-    ensures no_fault { OnOk result ((H.state host.new).faults Video ≡ (H.state host.old).faults Video) }
+    requires rack { IsRackOf show.now rack.old }
+    requires fitted { AreFitted (measures_of show.now.profile) table.now fitted.old.fits }
+    requires stacks { AreStacksOf show.now ops }
+    ensures ok { OnOk result.0 (Appends Video (H.state host.old) (H.state host.new) (video_of (meant show.now table.now) at)) }
+    ensures failed { OnErr result.0 (AppendsFront Video (H.state host.old) (H.state host.new) (video_of (meant show.now table.now) at)) }
+    ensures loads { result.1 ≡ length (needs (tree show.now.sealed) at) }
+    ensures few { result.1 < 2 ^ 32 }
+    ensures cause { Counts ((H.state host.old).faults Video) ((H.state host.new).faults Video) result.0 }
+    ensures no_fault { OnOk result.0 ((H.state host.new).faults Video ≡ (H.state host.old).faults Video) }
     ensures creates { (H.state host.new).creates Video ≡ (H.state host.old).creates Video }
     ensures rest { OnlyPort Video (H.state host.old) (H.state host.new) }
     ensures home { home_of pool.new (class_of (piece_of show.now.output show.now.profile)) ≡ home_of pool.old (class_of (piece_of show.now.output show.now.profile)) }
     ensures lent { LendsAlike pool.old pool.new }
-    ensures space { length space.new ≡ length space.old }
+    ensures rack { IsRackOf show.now rack.new }
+    ensures fitted { AreFitted (measures_of show.now.profile) table.now fitted.new.fits }
+    ensures stacks { AreStacksOf show.now result.2 }
 {
-    let Some(mut lease) = pool.lend(piece(show)) else {
+    let Some(buffer) = pool.lend(piece(show)) else {
         unreachable!()
     };
-    let loads = draw_into(show, table, at, space, &mut lease);
-    let answer = host.append(Port::Video, &lease.bytes()[..picture_bytes(show)]);
-    pool.home(lease);
-    answer.map(|()| loads)
+    // so each position of it is below 2^31
+    let _ = show.sealed.length();
+    let frame = start(&show.sealed, Pos(at), buffer, ops);
+    keep(
+        alloc,
+        table,
+        &show.profile,
+        fitted,
+        frame.image().as_slice(),
+    );
+    let rendered = render(
+        frame,
+        table,
+        fitted,
+        rack,
+        &Alone,
+        &show.profile,
+        &show.output,
+    );
+    let answer = host.append(Port::Video, rendered.video());
+    let loads = rendered.loads();
+    let (buffer, ops) = rendered.into_parts();
+    pool.home(buffer);
+    (answer, loads, ops)
 }
 
-/// Creates Video and plays each position, with a pool that has a block for a frame at home, and space for a
-/// fitted picture.
+/// Creates Video and plays each position, with a pool that has a block for a frame at home, a rack, and stacks
+/// with room for all operations.
 fn play_frames<H: Host>(
+    alloc: Global,
     show: &Show,
     table: &SourceTable,
     host: &mut H,
     pool: &mut Pool,
-    space: &mut [u8],
+    rack: &mut Rack,
+    fitted: &mut Fitted,
+    ops: Ops,
 ) -> Status
-    requires space { length space.old ≡ show.now.profile.width * show.now.profile.height * 4 }
+    requires playable { IsPlayable show.now table.now }
     requires block { 0 < home_of pool.old (class_of (piece_of show.now.output show.now.profile)) }
-    requires played { IsPlayed (meant show.now table.now) }
+    requires rack { IsRackOf show.now rack.old }
+    requires fitted { AreFitted (measures_of show.now.profile) table.now fitted.old.fits }
+    requires stacks { AreStacksOf show.now ops }
     ensures plays { Plays (meant show.now table.now) result (H.state host.old) (H.state host.new) }
     ensures keeps { KeepsElse (meant show.now table.now) result (H.state host.old) (H.state host.new) }
     ensures lent { LendsAlike pool.old pool.new }
-    ensures space { length space.new ≡ length space.old }
+    ensures rack { IsRackOf show.now rack.new }
 {
     let Ok(()) = host.create(Port::Video, show.output.video.as_str()) else {
         return Status::SinkFault(Port::Video, Tally::nothing());
     };
     let first = show.output.first.0;
     let frames = show.output.last.0 - first + 1;
+    let mut stacks = ops;
     let mut loads = 0;
     for done in 0..frames {
-        let Ok(more) = play_frame(show, table, first + done, host, pool, space) else {
+        let at = first + done;
+        let (answer, more, emptied) = play_frame(
+            alloc, show, table, at, host, pool, rack, fitted, stacks,
+        );
+        stacks = emptied;
+        let Ok(()) = answer else {
             return Status::SinkFault(Port::Video, stopped(done, loads));
         };
-        loads += more;
+        loads += u64::from(more);
     }
     Status::Done(all(frames, loads))
 }
 
-/// Plays the show with a pool that lends nothing but this space for a fitted picture: first a block for a frame is
-/// added to it.
-fn play_with<H: Host>(
+/// Plays the show on a rack: first a block for a frame is added to the pool, and the stacks and the places for
+/// fitted pictures are made.
+fn play_on<H: Host>(
+    alloc: Global,
     show: &Show,
     table: &SourceTable,
     host: &mut H,
     pool: &mut Pool,
-    space: &mut [u8],
+    rack: &mut Rack,
 ) -> Status
-    requires space { length space.old ≡ show.now.profile.width * show.now.profile.height * 4 }
-    requires played { IsPlayed (meant show.now table.now) }
+    requires playable { IsPlayable show.now table.now }
+    requires rack { IsRackOf show.now rack.old }
     ensures plays { Plays (meant show.now table.now) result (H.state host.old) (H.state host.new) }
     ensures keeps { KeepsElse (meant show.now table.now) result (H.state host.old) (H.state host.new) }
     ensures lent { LendsAlike pool.old pool.new }
-    ensures space { length space.new ≡ length space.old }
+    ensures rack { IsRackOf show.now rack.new }
 {
-    match pool.reserve(class::of_length(piece(show)), 1) {
-        Ok(()) => play_frames(show, table, host, pool, space),
-        Err(_) => Status::Memory,
-    }
+    let Ok(()) = pool.reserve(class::of_length(piece(show)), 1) else {
+        return Status::Memory;
+    };
+    let Ok(stacks) = Ops::new(alloc, show.sealed.ops()) else {
+        return Status::Memory;
+    };
+    let Ok(mut fitted) = Fitted::new(alloc, show.output.cache) else {
+        return Status::Memory;
+    };
+    play_frames(alloc, show, table, host, pool, rack, &mut fitted, stacks)
 }
 
-/// Draws with the lease as space.
-fn play_into<H: Host>(
+/// Plays the show with a pool: first the blocks of a rack are added to it, and lent until the end.
+fn play_in<H: Host>(
+    alloc: Global,
     show: &Show,
     table: &SourceTable,
     host: &mut H,
     pool: &mut Pool,
-    space: &mut Lease,
 ) -> Status
-    requires space { length space.old ≡ show.now.profile.width * show.now.profile.height * 4 }
-    requires played { IsPlayed (meant show.now table.now) }
-    ensures plays { Plays (meant show.now table.now) result (H.state host.old) (H.state host.new) }
-    ensures keeps { KeepsElse (meant show.now table.now) result (H.state host.old) (H.state host.new) }
-    ensures lent { LendsAlike pool.old pool.new }
-    ensures space { length space.new ≡ length space.old }
-{
-    play_with(show, table, host, pool, space.bytes_mut())
-}
-
-/// Plays the show with a pool that has lent nothing: first a block for a fitted picture is added to it, and lent
-/// until the end.
-fn play_in<H: Host>(show: &Show, table: &SourceTable, host: &mut H, pool: &mut Pool) -> Status
-    requires played { IsPlayed (meant show.now table.now) }
+    requires { IsPlayable show.now table.now }
     ensures plays { Plays (meant show.now table.now) result (H.state host.old) (H.state host.new) }
     ensures keeps { KeepsElse (meant show.now table.now) result (H.state host.old) (H.state host.new) }
     ensures lent { all_lent pool.new ≡ all_lent pool.old }
 {
-    let bytes = fitted_bytes(&show.profile);
-    let Ok(()) = pool.reserve(class::of_length(bytes), 1) else {
+    let size = unit_of(&show.profile) as usize;
+    let need = show.sealed.need();
+    let Ok(()) = pool.reserve(class::of_length(size), need) else {
         return Status::Memory;
     };
-    let Some(mut space) = pool.lend(bytes) else {
-        unreachable!()
+    let Ok(made) = Rack::new(alloc, pool, need, size) else {
+        return Status::Memory;
     };
-    let status = play_into(show, table, host, pool, &mut space);
-    pool.home(space);
+    let Some(mut rack) = made else { unreachable!() };
+    let status = play_on(alloc, show, table, host, pool, &mut rack);
+    rack.end(pool);
     status
 }
 
 /// Plays the show with a pool that is made for it and closed at the end.
 fn play_all<H: Host>(alloc: Global, show: &Show, table: &SourceTable, host: &mut H) -> Status
-    requires { IsPlayed (meant show.now table.now) }
+    requires { IsPlayable show.now table.now }
     ensures plays { Plays (meant show.now table.now) result (H.state host.old) (H.state host.new) }
     ensures keeps { KeepsElse (meant show.now table.now) result (H.state host.old) (H.state host.new) }
 {
     let mut pool = Pool::new(alloc);
-    let status = play_in(show, table, host, &mut pool);
+    let status = play_in(alloc, show, table, host, &mut pool);
     pool.close();
     status
 }
@@ -215,11 +299,12 @@ fn play_all<H: Host>(alloc: Global, show: &Show, table: &SourceTable, host: &mut
 /// Plays the show: creates Video, and appends the picture of each position in order.
 ///
 /// It answers `Done` where every call of the host was Ok, `SinkFault` at the first that was not, and
-/// `Memory` with nothing created. It waits for nobody. The block of a frame's buffer, and one that a picture is
-/// fitted into where it is written without its alpha, are taken before the output is created; each frame is
-/// drawn into them, and they are given back at the end.
+/// `Memory` with nothing created. It waits for nobody. The block of a frame's buffer, the blocks that a frame
+/// is worked out in, and the stacks of its operations are taken before the output is created, and each frame
+/// uses them again. As many fitted pictures are kept as the output's `cache` says; these are made as frames
+/// come to them, and where memory is wanting for one, it is fitted anew for each frame.
 ///
-/// The table fits what is played. Until they are built, that has no filter, nothing planted and no sound.
+/// The table fits what is played. Until they are built, that has nothing planted and no sound.
 pub fn play_serial<H: Host>(alloc: Global, show: Show, table: SourceTable, host: &mut H) -> Status
     requires fits { Fits table (tree show.sealed) }
     requires played { IsPlayed (meant show table) }

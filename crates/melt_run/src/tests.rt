@@ -7,6 +7,7 @@ use mlt_host::disk_in_memory::MemDisk;
 use mlt_host::{DiskHost, MemHost};
 use mlt_tree::{Cause, Refusal};
 use std::alloc::{AllocError, Global};
+use std::process::Abort;
 use std::test::Fail;
 
 const RED_TWICE: [&str; 6] = [
@@ -351,6 +352,181 @@ fn plays_pictures(rt: HostRuntime) -> Result<(), Fail> {
     let text = "melt: word 4: file longer than 268435456 bytes\n";
     assert_eq!(rt; line.as_slice(), text.as_bytes());
     Ok(())
+}
+
+/// Words behind those of a profile of one pixel and its consumer: how they end, what Video has, and what a person
+/// reads.
+fn answers(
+    rt: &impl Abort,
+    alloc: Global,
+    rows: &[(&str, Status, &[u8], &str)],
+) -> Result<(), Fail> {
+    for (line, status, video, text) in rows {
+        let whole = format!(in alloc; "-profile 1x1@25/1 -consumer raw:v {line}")?;
+        let words = split(alloc, whole.as_str())?;
+        let mut host = with_pictures(alloc)?;
+        let answer = melt(&(), alloc, words.as_slice(), &mut host, &Free);
+        assert_eq!(rt; answer, *status, "{line}");
+        assert_eq!(rt; host.bytes_of(Port::Video), *video, "{line}");
+        assert_eq!(rt; host.bytes_of(Port::Text), text.as_bytes(), "{line}");
+    }
+    Ok(())
+}
+
+#[test]
+fn attaches_filters(rt: HostRuntime) -> Result<(), Fail> {
+    let alloc = rt.alloc();
+    answers(
+        &rt,
+        alloc,
+        &[
+            (
+                "colour:red out=0 -attach greyscale",
+                Status::Done(tally(1)),
+                &[0x4c, 0x4c, 0x4c],
+                "",
+            ),
+            (
+                "colour:red out=1 -split 0 -attach-clip invert",
+                Status::Done(tally(2)),
+                &[0, 255, 255, 0, 255, 255],
+                "",
+            ),
+            (
+                "colour:red out=1 -attach brightness level=0=0;1=1",
+                Status::Done(tally(2)),
+                &[0, 0, 0, 255, 0, 0],
+                "",
+            ),
+            (
+                "colour:red out=1 -attach brightness level=0=0;1=1 -split 0 -swap",
+                Status::Done(tally(2)),
+                &[255, 0, 0, 0, 0, 0],
+                "",
+            ),
+            (
+                "colour:red out=0 -attach invert -attach threshold midpoint=200",
+                Status::Done(tally(1)),
+                &[0, 0, 0],
+                "",
+            ),
+            (
+                "colour:red out=0 -attach brightness:0.5",
+                Status::Done(tally(1)),
+                &[128, 0, 0],
+                "",
+            ),
+            (
+                "colour:red out=1 -attach-track invert in=1",
+                Status::Done(tally(2)),
+                &[255, 0, 0, 0, 255, 255],
+                "",
+            ),
+            (
+                "colour:red in=2 out=4 -attach-cut invert in=1 out=1",
+                Status::Done(tally(3)),
+                &[255, 0, 0, 0, 255, 255, 255, 0, 0],
+                "",
+            ),
+            (
+                "-group level=0 colour:red out=0 -attach brightness colour:red out=0 -attach brightness level=1",
+                Status::Done(tally(2)),
+                &[0, 0, 0, 255, 0, 0],
+                "",
+            ),
+            (
+                "p.ppm out=2 -attach swapchannels:bgra in=1 -attach-clip opacity:0 in=2 -blank 0",
+                Status::Done(tally_with(4, 3)),
+                &[10, 20, 30, 30, 20, 10, 0, 0, 0, 0, 0, 0],
+                "",
+            ),
+            (
+                "p.ppm out=0 -attach sepia -attach mirror:vertical -attach obscure -attach crop:1",
+                Status::Done(tally(1)),
+                &[0, 0, 0],
+                "",
+            ),
+        ],
+    )
+}
+
+#[test]
+fn refuses_filters(rt: HostRuntime) -> Result<(), Fail> {
+    let alloc = rt.alloc();
+    answers(
+        &rt,
+        alloc,
+        &[
+            (
+                "-attach invert",
+                refusal(4, Cause::TooFew { asked: 1, there: 0 }),
+                &[],
+                "melt: word 4: 1 wanted, 0 there\n",
+            ),
+            (
+                "colour:red -blank 0 -attach-clip invert",
+                refusal(7, Cause::BadClip { index: 1, count: 2 }),
+                &[],
+                "melt: word 7: no clip at 1 of 2\n",
+            ),
+            (
+                "-attach blur:3",
+                refusal(4, Cause::UnknownService),
+                &[],
+                "melt: word 4: unknown service\n",
+            ),
+            (
+                "colour:red -attach invert in=3 out=1",
+                refusal(
+                    5,
+                    Cause::BadRange {
+                        first: 3,
+                        last: 1,
+                        length: 0,
+                    },
+                ),
+                &[],
+                "melt: word 5: bad range 3 to 1 of 0\n",
+            ),
+            (
+                "colour:red -attach obscure size=4097",
+                refusal(
+                    7,
+                    Cause::OutOfRange {
+                        value: 4097,
+                        low: 1,
+                        high: 4096,
+                    },
+                ),
+                &[],
+                "melt: word 7: 4097 is outside 1 to 4096\n",
+            ),
+            (
+                "-attach-track brightness:0=1;0=2",
+                refusal(4, Cause::BadNumber(NumFault::Order(4))),
+                &[],
+                "melt: word 4: bad number\n",
+            ),
+            (
+                "-attach brightness:x in=y",
+                refusal(6, Cause::BadNumber(NumFault::BadDigit(0))),
+                &[],
+                "melt: word 6: bad number\n",
+            ),
+            (
+                "-attach-track swapchannels order=rgbx",
+                refusal(6, Cause::BadValue),
+                &[],
+                "melt: word 6: bad value\n",
+            ),
+            (
+                "no.ppm -attach volume:0.5",
+                refusal(5, Cause::Unsupported),
+                &[],
+                "melt: word 5: option not supported\n",
+            ),
+        ],
+    )
 }
 
 #[test]

@@ -4,13 +4,13 @@ use Rattle.std.proofs.lemmas.Result.{err_from_is_err_and}
 use Rattle.mlt_base.specs.Try.{Fails}
 use Rattle.mlt_tree.specs.Sealing.{show_of_tree}
 use Rattle.mlt_tree.specs.Sources.{Fits}
-use Rattle.mlt_tree.specs.Unbuilt.{IsPlain, IsPlainNode}
+use Rattle.mlt_tree.specs.Unbuilt.{IsUnplanted}
 use Rattle.mlt_tree.specs.Units.{tractor_of}
 use Rattle.mlt_tree.proofs.FitsTree.{fits_tree}
-use Rattle.mlt_tree.proofs.PlainTree.{plain_tree}
 use Rattle.mlt_graph.specs.Sealed.{tree}
-use Rattle.melt_build.specs.State.{state_view}
-use Rattle.melt_build.proofs.Levels.{level_below, tractor_plain, no_maps}
+use Rattle.mlt_graph.proofs.Unplanted.{unit-unplanted}
+use Rattle.melt_build.specs.State.{IsUnplantedNode, state_view}
+use Rattle.melt_build.proofs.Levels.{level_below, tractor_unplanted, no_maps}
 use Rattle.melt_build.proofs.Sealed.{fits_more, seal-tree}
 use Rattle.melt_build.proofs.seal.seal.Goals as goal
 
@@ -29,7 +29,7 @@ returns-clause-played c =
     let graph = state.made.graph in
     let units = graph ++ tractor_of state.level ∷ [] in
     record {
-      plain = subst IsPlain (sym (c.in_ok-show_of_tree.ensures.tree ∙ ap tree c.in_ok-sealed.ensures.sealed)) (plain_tree units (All-push IsPlainNode graph (tractor_of state.level) c.requires.made.plain (tractor_plain (length graph) state.level c.requires.level)) (length graph));
+      unplanted = subst IsUnplanted (sym (c.in_ok-show_of_tree.ensures.tree ∙ ap tree c.in_ok-sealed.ensures.sealed)) (unit-unplanted units (All-push IsUnplantedNode graph (tractor_of state.level) c.requires.made.unplanted (tractor_unplanted (length graph) state.level c.requires.level)) (length graph));
       silent = c.in_ok-show_of_tree.ensures.silent;
     }
 

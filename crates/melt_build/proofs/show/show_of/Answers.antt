@@ -1,6 +1,4 @@
-use Rattle.std.proofs.Common.{◌≡◌, Ok, Err, refl, sym, subst}
 use Rattle.std.proofs.lemmas.Result.{err_from_is_err_and}
-use Rattle.mlt_tree.specs.Composing.{composed}
 use Rattle.melt_build.specs.State.{state_view}
 use Rattle.melt_build.proofs.Shown.{tells_composed, composed_fails, seal_fails, seal_goes}
 use Rattle.melt_build.proofs.show.show_of.Goals as goal

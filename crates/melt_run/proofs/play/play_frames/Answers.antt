@@ -17,47 +17,49 @@ pub returns-in_default-clause-plays : goal.returns-in_default-clause-plays
 returns-in_default-clause-plays g c =
     let show = meant c.args.show.now c.args.table.now in
     let a = g.H.Host.state c.args.host.now in let z = g.H.Host.state c.create.new.self in
-    subst (λ tally. Plays show (SinkFault Video tally) a z) (sym c.nothing.ensures) (plays_uncreated show c.requires.played.silent a z c.in_default.ensures.failed)
+    subst (λ tally. Plays show (SinkFault Video tally) a z) (sym c.nothing.ensures) (plays_uncreated show c.requires.playable.played.silent a z c.in_default.ensures.failed)
 
 pub returns-in_default-clause-keeps : goal.returns-in_default-clause-keeps
 returns-in_default-clause-keeps g c =
-    let show = meant c.args.show.now c.args.table.now in let silent = c.requires.played.silent in
+    let show = meant c.args.show.now c.args.table.now in let silent = c.requires.playable.played.silent in
     let a = g.H.Host.state c.args.host.now in let z = g.H.Host.state c.create.new.self in
     let cause = c.in_default.ensures.cause in let only = c.in_default.ensures.rest in
     keeps_else show silent a z (SinkFault Video c.nothing.result) only (video_fault show silent a z c.nothing.result only cause.failed cause.never_falls) (inl c.in_default.ensures.creates)
 
-pub returns-in_default-play_frame-clause-plays : goal.returns-in_default-play_frame-clause-plays
-returns-in_default-play_frame-clause-plays g c =
+pub returns-in_default-answer-clause-plays : goal.returns-in_default-answer-clause-plays
+returns-in_default-answer-clause-plays g c =
     let show = meant c.args.show.now c.args.table.now in let done = c.loop-done.done in
-    let a = g.H.Host.state c.args.host.now in let l = g.H.Host.state c.loop-done.host in let z = g.H.Host.state c.play_frame.new.host in
+    let a = g.H.Host.state c.args.host.now in let l = g.H.Host.state c.loop-done.host in let z = g.H.Host.state c.play_frame-answer.new.host in
     let short : done < written_frames show = omega (arith, c.loop-done-test.true) in
-    let cut = cuts show show.output.video done (l.port Video) (z.port Video) c.loop-done.invariant.so_far c.in_default-play_frame.ensures.failed in
-    plays_cut show c.requires.played.silent a z c.stopped.result (stopped_is show done c.loop-done.loads c.stopped.result short c.loop-done.invariant.exact c.stopped.ensures)
+    let cut = cuts show show.output.video done (l.port Video) (z.port Video) c.loop-done.invariant.so_far (rw c.in_default-answer.is at c.play_frame-answer.ensures.failed) in
+    plays_cut show c.requires.playable.played.silent a z c.stopped.result (stopped_is show done c.loop-done.loads c.stopped.result short c.loop-done.invariant.exact c.stopped.ensures)
     (subst (λ n. IfSome (z.port Video) (IsCutAt show Video Video show.output.video n)) (sym (ap (λ (t : Tally). t.frames) c.stopped.ensures)) cut)
 
-pub returns-in_default-play_frame-clause-keeps : goal.returns-in_default-play_frame-clause-keeps
-returns-in_default-play_frame-clause-keeps g c =
-    let show = meant c.args.show.now c.args.table.now in let silent = c.requires.played.silent in
-    let a = g.H.Host.state c.args.host.now in let l = g.H.Host.state c.loop-done.host in let z = g.H.Host.state c.play_frame.new.host in
-    let cause = c.play_frame.ensures.cause in let counted = c.loop-done.invariant.counted in
-    let only = only_both Video a l z c.loop-done.invariant.rest c.play_frame.ensures.rest in
-    let rose : Rose (a.faults Video) (z.faults Video) = subst (λ n. Rose n (z.faults Video)) counted c.in_default-play_frame.ensures.cause.failed in
+pub returns-in_default-answer-clause-keeps : goal.returns-in_default-answer-clause-keeps
+returns-in_default-answer-clause-keeps g c =
+    let show = meant c.args.show.now c.args.table.now in let silent = c.requires.playable.played.silent in
+    let a = g.H.Host.state c.args.host.now in let l = g.H.Host.state c.loop-done.host in let z = g.H.Host.state c.play_frame-answer.new.host in
+    let cause = c.play_frame-answer.ensures.cause in let counted = c.loop-done.invariant.counted in
+    let only = only_both Video a l z c.loop-done.invariant.rest c.play_frame-answer.ensures.rest in
+    let rose : Rose (a.faults Video) (z.faults Video) = subst (λ n. Rose n (z.faults Video)) counted (rw c.in_default-answer.is at c.play_frame-answer.ensures.cause).failed in
     keeps_else show silent a z (SinkFault Video c.stopped.result) only (video_fault show silent a z c.stopped.result only rose (omega (arith, cause.never_falls, counted)))
-    (inr (c.play_frame.ensures.creates ∙ c.loop-done.invariant.created))
+    (inr (c.play_frame-answer.ensures.creates ∙ c.loop-done.invariant.created))
 
 pub loop-done-preserved : goal.loop-done-preserved
 loop-done-preserved g c =
     let show = meant c.args.show.now c.args.table.now in let done = c.loop-done.done in
     record {
-      home = c.play_frame.ensures.home ∙ c.loop-done.invariant.home;
-      lent = lends_both _ _ _ c.loop-done.invariant.lent c.play_frame.ensures.lent;
-      space = c.play_frame.ensures.space ∙ c.loop-done.invariant.space;
-      so_far = grows show show.output.video done Video ((g.H.Host.state c.loop-done.host).port Video) ((g.H.Host.state c.play_frame.new.host).port Video) c.loop-done.invariant.so_far c.in-Ok-play_frame.ensures.ok;
-      exact = loads_more show done c.loop-done.loads c.in-Ok-play_frame.more c.loop-done.invariant.exact c.in-Ok-play_frame.ensures.loads.0;
-      few = omega (arith, c.loop-done.invariant.few, c.in-Ok-play_frame.ensures.loads.1);
-      counted = c.in-Ok-play_frame.ensures.no_fault ∙ c.loop-done.invariant.counted;
-      created = c.play_frame.ensures.creates ∙ c.loop-done.invariant.created;
-      rest = only_both Video _ _ _ c.loop-done.invariant.rest c.play_frame.ensures.rest;
+      home = c.play_frame-answer.ensures.home ∙ c.loop-done.invariant.home;
+      lent = lends_both _ _ _ c.loop-done.invariant.lent c.play_frame-answer.ensures.lent;
+      rack = c.play_frame-answer.ensures.rack;
+      fitted = c.play_frame-answer.ensures.fitted;
+      stacks = c.play_frame-answer.ensures.stacks;
+      so_far = grows show show.output.video done Video ((g.H.Host.state c.loop-done.host).port Video) ((g.H.Host.state c.play_frame-answer.new.host).port Video) c.loop-done.invariant.so_far (rw c.in-Ok-answer.is at c.play_frame-answer.ensures.ok);
+      exact = loads_more show done c.loop-done.loads c.from-loads.result c.loop-done.invariant.exact (c.from-loads.ensures ∙ c.play_frame-answer.ensures.loads);
+      few = omega (arith, c.loop-done.invariant.few, c.play_frame-answer.ensures.few);
+      counted = (rw c.in-Ok-answer.is at c.play_frame-answer.ensures.no_fault) ∙ c.loop-done.invariant.counted;
+      created = c.play_frame-answer.ensures.creates ∙ c.loop-done.invariant.created;
+      rest = only_both Video _ _ _ c.loop-done.invariant.rest c.play_frame-answer.ensures.rest;
     }
 
 pub returns-clause-plays : goal.returns-clause-plays
@@ -66,13 +68,13 @@ returns-clause-plays g c =
     let a = g.H.Host.state c.args.host.now in let l = g.H.Host.state c.loop-done.host in
     let done : c.loop-done.done ≡ count = omega arith in
     let frames : c.args.show.now.output.last.0 - c.args.show.now.output.first.0 + 1 ≡ count = omega arith in
-    plays_done show c.requires.played.silent a l c.all.result
+    plays_done show c.requires.playable.played.silent a l c.all.result
     (full_is show count loads c.all.result (c.loop-done.invariant.exact ∙ ap (loads_to show) done) (c.all.ensures ∙ ap (λ n. record { frames = n; loads = loads; handed = n; taken = n; destroyed = 0 }) frames))
     (subst (λ n. IfSome (l.port Video) (λ port. port ≡ fronted show Video show.output.video n)) done c.loop-done.invariant.so_far)
 
 pub returns-clause-keeps : goal.returns-clause-keeps
 returns-clause-keeps g c =
-    let show = meant c.args.show.now c.args.table.now in let silent = c.requires.played.silent in
+    let show = meant c.args.show.now c.args.table.now in let silent = c.requires.playable.played.silent in
     let a = g.H.Host.state c.args.host.now in let l = g.H.Host.state c.loop-done.host in
     let only = c.loop-done.invariant.rest in
     keeps_else show silent a l (Done c.all.result) only (same_faults show silent a l only c.loop-done.invariant.counted) c.loop-done.invariant.created

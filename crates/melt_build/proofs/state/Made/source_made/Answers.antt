@@ -1,10 +1,7 @@
 use Rattle.std.proofs.Common.{◌++◌, [], ◌∷◌, sym, subst}
-use Rattle.std.proofs.lemmas.List.Elements.{All-push}
 use Rattle.mlt_source.specs.Sources.{source_of}
-use Rattle.mlt_tree.specs.Unbuilt.{IsPlainNode}
-use Rattle.mlt_tree.specs.Units.{source_unit}
 use Rattle.melt_build.specs.State.{FitsUnits}
-use Rattle.melt_build.proofs.Sourced.{source_fits, source_plain}
+use Rattle.melt_build.proofs.Sourced.{source_fits, source_unplanted}
 use Rattle.melt_build.proofs.state.Made.source_made.Goals as goal
 
 pub returns-clause-made : goal.returns-clause-made
@@ -15,5 +12,5 @@ returns-clause-made c =
     record {
       few = c.requires.few;
       fits = subst (λ t. FitsUnits t c.add_source.new.self) (sym c.in_ok-no.ensures.added) (subst (FitsUnits table) (sym c.in_ok-unit.ensures.ok) (source_fits made.table made.graph (source_of c.args.source) no kind frames c.in_ok-no.ensures.number c.kind-kind.ensures c.requires.fits));
-      plain = source_plain made.graph c.add_source.new.self no kind frames c.in_ok-unit.ensures.ok c.requires.plain;
+      unplanted = source_unplanted made.graph c.add_source.new.self no kind frames c.in_ok-unit.ensures.ok c.requires.unplanted;
     }

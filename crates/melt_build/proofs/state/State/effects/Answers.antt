@@ -1,8 +1,7 @@
-use Rattle.std.proofs.Common.{rules, ◌≡◌, ◌∙◌, ◌+◌, ◌<◌, ◌≤◌, drop, get_or, length, Err, sym, subst}
+use Rattle.std.proofs.Common.{rules, ◌∙◌, ◌<◌, length}
 use Rattle.std.proofs.lemmas.Result.{err_from_is_err_and}
 use Rattle.mlt_tree.specs.Composing.{effect}
 use Rattle.mlt_tree.specs.Loading.{through}
-use Rattle.melt_build.specs.Loads.{Tells}
 use Rattle.melt_build.specs.State.{state_view}
 use Rattle.melt_build.proofs.Hosted.{loads_both}
 use Rattle.melt_build.proofs.Looked.{on_next, next_fails}

@@ -22,4 +22,4 @@ returns-clause-composed c =
     let list = c.last-list.result.now in let at = c.saturating_sub-at.result in let unit = c.next_id-unit.result.0 in
     let joined : List Entry = c.in_ok-entries.entries in
     let done = edited_done c.args.group.now.place (edit.join at c.args.n unit list) list c.join.new.self c.join.result joined (sym c.edited.ensures ∙ c.in_ok-entries.was) c.join.ensures in
-    joined_composed c.args.self.now c.add_list.new.self at c.args.n unit c.join.new.self joined c.requires.composed c.in_ok-add_list.ensures.ok c.next_id-unit.ensures (subst (λ es. edit.join at c.args.n unit es ≡ Ok (joined, c.join.new.self)) c.last-list.ensures.list done)
+    joined_composed c.args.self.now c.add_list.new.self at c.args.n unit c.join.new.self joined (joined_frames at c.args.n unit list c.join.new.self joined c.count.ensures.list done).1 c.requires.composed c.in_ok-add_list.ensures.ok c.next_id-unit.ensures (subst (λ es. edit.join at c.args.n unit es ≡ Ok (joined, c.join.new.self)) c.last-list.ensures.list done)

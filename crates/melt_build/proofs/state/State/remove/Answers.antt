@@ -11,4 +11,4 @@ pub returns-clause-composed : goal.returns-clause-composed
 returns-clause-composed c =
     let s = c.args.self.now in let new : List Entry = c.remove.new.self in let x = c.in_ok-at_group.field-0 in let last = c.in-Some.last in
     let done = grouped_done c.args.group.now.place (edit.remove last c.last.result.now) c.last.result.now new c.remove.result x (sym c.at_group.ensures ∙ c.in_ok-at_group.was) c.remove.ensures in
-    composed_with s new c.requires (keeps_remove (IsKnown (length s.made.graph)) last s.level.current.entries new x c.requires.level.current.entries (subst (λ es. edit.remove last es ≡ Ok (x, new)) c.last.ensures.list done))
+    composed_with s new c.requires (keeps_remove (IsKnown (length s.made.graph)) last s.level.current.entries new x c.requires.level.current (subst (λ es. edit.remove last es ≡ Ok (x, new)) c.last.ensures.list done))

@@ -24,4 +24,4 @@ returns-clause-composed c =
     let s = c.args.self.now in let g = c.args.group.now in let k = c.in_ok-n.n in let last = c.in-Some.last in
     let es : List Entry = s.level.current.entries in let new : List Entry = c.repeat_clip.new.self in
     let does : Does (edit.repeat_clip last k es) es new c.repeat_clip.result = subst (λ es. Does (edit.repeat_clip last k es) es new c.repeat_clip.result) c.last.ensures.list c.repeat_clip.ensures in
-    subst (λ r. OnOk r (IsComposed (changed s new))) (sym c.edited.ensures) (stays_composed s g.place (edit.repeat_clip last k es) new c.repeat_clip.result c.requires does (λ x done. keeps_repeat (IsKnown (length s.made.graph)) last k es new x c.requires.level.current.entries done))
+    subst (λ r. OnOk r (IsComposed (changed s new))) (sym c.edited.ensures) (stays_composed s g.place (edit.repeat_clip last k es) new c.repeat_clip.result c.requires does (λ x done. keeps_repeat (IsKnown (length s.made.graph)) last k es new x c.requires.level.current done))

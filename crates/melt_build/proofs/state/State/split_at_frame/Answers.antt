@@ -22,4 +22,4 @@ returns-clause-composed c =
     let s = c.args.self.now in let g = c.args.group.now in let k = c.args.k in let last = c.in-Some.last in
     let es : List Entry = s.level.current.entries in let new : List Entry = c.split.new.self in
     let does : Does (edit.split last k es) es new c.split.result = subst (λ es. Does (edit.split last k es) es new c.split.result) c.last.ensures.list (rw (to_z-of_z w64 k c.ranges.k) at c.split.ensures) in
-    subst (λ r. OnOk r (IsComposed (changed s new))) (sym c.edited.ensures) (stays_composed s g.place (edit.split last k es) new c.split.result c.requires does (λ x done. keeps_split (IsKnown (length s.made.graph)) (cut_known (length s.made.graph)) last k es new x c.requires.level.current.entries done))
+    subst (λ r. OnOk r (IsComposed (changed s new))) (sym c.edited.ensures) (stays_composed s g.place (edit.split last k es) new c.split.result c.requires does (λ x done. keeps_split (IsKnown (length s.made.graph)) (cut_known (length s.made.graph)) last k es new x c.requires.level.current done))
