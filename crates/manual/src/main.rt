@@ -47,6 +47,18 @@ fn row_of(alloc: Global, property: &Property) -> Result<String, AllocError> {
             let name = text_of(&row.name);
             format!(in alloc; "| `{name}` | a time |")
         }
+        Property::Share(row) => {
+            let name = text_of(&row.name);
+            format!(in alloc; "| `{name}` | a number from 0 to 1 | 0 |")
+        }
+        Property::FileName(row) => {
+            let name = text_of(&row.name);
+            format!(in alloc; "| `{name}` | the name of a file |")
+        }
+        Property::Area(row) => {
+            let (name, default) = (text_of(&row.name), text_of(&row.default));
+            format!(in alloc; "| `{name}` | a geometry | `{default}` |")
+        }
     }
 }
 

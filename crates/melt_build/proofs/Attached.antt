@@ -1,8 +1,6 @@
 -- Filters that are attached: the clip that stands last, and the units with one filter more.
-use Rattle.std.proofs.Common.{ℕ, ◌≡◌, ◌≢◌, ◌+◌, ◌<◌, Bool, true, false, eqb, List, [], ◌∷◌, length, get_or, slice_get, Option, None, Some, Result, All, refl, sym, ap, ◌∙◌, subst, arith}
-use Rattle.std.proofs.lemmas.Bool.Decides.{nat_tests}
-use Rattle.std.proofs.lemmas.List.{get_or_default, get_or-set_same, get_or-set_other, length-set}
-use Rattle.std.proofs.lemmas.List.Elements.{All-set, All-get_or}
+use Rattle.std.proofs.Common.{ℕ, ◌≡◌, ◌+◌, ◌<◌, List, [], ◌∷◌, length, get_or, slice_get, Option, None, Some, Result, refl, ap, ◌∙◌, arith}
+use Rattle.std.proofs.lemmas.List.{length-set}
 use Rattle.mlt_base.specs.declared.value.Span.{Span}
 use Rattle.mlt_base.specs.declared.value.UnitId.{UnitId}
 use Rattle.mlt_tree.specs.declared.entry.Entry.{Entry}
@@ -19,7 +17,8 @@ use Rattle.mlt_tree.specs.Refusing.{refuse}
 use Rattle.mlt_tree.specs.Show.{Source}
 use Rattle.mlt_tree.specs.Sources.{FitsBody}
 use Rattle.mlt_tree.specs.Units.{list_unit, with_filter, with_unit_filter}
-use Rattle.melt_build.specs.State.{FitsUnits, IsUnplantedNode}
+use Rattle.melt_build.specs.State.{FitsUnits}
+use Rattle.melt_build.proofs.Mixed.{each_set, unit_there}
 use Rattle.melt_build.proofs.Tracks.{on_last_is}
 
 -- ---- the clip that stands last
@@ -55,32 +54,11 @@ module _ (s : meaning.State) (g : Group) (act : UnitId → Span → Result meani
 
 -- ---- units with one filter more
 
--- a filter more leaves what a unit is made of
-body_same : (units : List Node) (unit k : ℕ) (filter : Attached) (node : Node) (P : Node → Type 0) → ((n : Node) → P n → P (with_filter n filter)) → k < length units → ((n : Node) → n ≡ get_or units k n → P n) → node ≡ get_or (with_unit_filter units unit filter) k node → P node
-body_same units unit k filter node P more below each is = by (eqb k unit) refl where
-  old : Node
-  old = get_or units unit (list_unit [])
-
-  by : (b : Bool) → eqb k unit ≡ b → P node
-  by true test =
-      let same : k ≡ unit = grind (arith, nat_tests) in
-      let inside : unit < length units = omega (arith, same, below) in
-      let now : node ≡ with_filter old filter = is ∙ ap (λ k. get_or (with_unit_filter units unit filter) k node) same ∙ get_or-set_same units unit (with_filter old filter) node inside in
-      subst P (sym now) (more old (each old (get_or_default units unit (list_unit []) old inside ∙ ap (λ k. get_or units k old) (sym same))))
-  by false test =
-      let apart : k ≢ unit = grind (arith, nat_tests) in
-      each node (is ∙ get_or-set_other units unit k (with_filter old filter) node apart)
-
 pub filter_fits : (table : List Source) (units : List Node) (unit : ℕ) (filter : Attached) → FitsUnits table units → FitsUnits table (with_unit_filter units unit filter)
 filter_fits table units unit filter fits k node below is =
-    let inside : k < length units = omega (arith, below, length-set units unit (with_filter (get_or units unit (list_unit [])) filter)) in
-    body_same units unit k filter node (λ n. FitsBody table n.body) (λ n h. h) inside (λ n here. fits k n inside here) is
-
-pub filter_unplanted : (units : List Node) (unit : ℕ) (filter : Attached) → unit < length units → All IsUnplantedNode units → All IsUnplantedNode (with_unit_filter units unit filter)
-filter_unplanted units unit filter inside all =
     let old : Node = get_or units unit (list_unit []) in
-    let here : IsUnplantedNode old = All-get_or IsUnplantedNode units unit (list_unit []) inside all in
-    All-set IsUnplantedNode units unit (with_filter old filter) here all
+    let inside : k < length units = omega (arith, below, length-set units unit (with_filter old filter)) in
+    each_set units unit k (with_filter old filter) node (λ n. FitsBody table n.body) inside (λ there. fits unit old there (unit_there units unit there)) (λ n here. fits k n inside here) is
 
 pub filter_length : (units : List Node) (unit : ℕ) (filter : Attached) → length (with_unit_filter units unit filter) ≡ length units
 filter_length units unit filter = length-set units unit (with_filter (get_or units unit (list_unit [])) filter)

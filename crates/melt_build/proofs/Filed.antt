@@ -1,27 +1,29 @@
 -- Files that are loaded, step by step.
 use Rattle.std.proofs.Common.{ℕ, ◌≡◌, ◌≤◌, ◌<◌, inl, inr, Bool, true, false, cond, leb, List, [], ◌∷◌, ◌++◌, length, Option, None, Some, IfSome, IsSomeAnd, Result, Ok, Err, refl, sym, ap, ◌∙◌, subst, arith}
 use Rattle.std.proofs.lemmas.Bool.Decides.{nat_tests}
+use Rattle.mlt_base.specs.declared.profile.SourceNo.{SourceNo}
 use Rattle.mlt_base.specs.Ppm.{ppm}
 use Rattle.mlt_base.specs.Profile.{Measures}
 use Rattle.mlt_base.specs.Still.{Picture}
 use Rattle.mlt_base.specs.Try as tried
-use Rattle.mlt_base.specs.Try.{TryGives}
 use Rattle.mlt_base.specs.declared.refusal.Try.{Try}
 use Rattle.mlt_host.specs.Host.{HostState, with_name}
 use Rattle.mlt_tree.specs.declared.refusal.Cause.TheVariants as cause
 use Rattle.mlt_tree.specs.declared.refusal.Refusal.{Refusal}
 use Rattle.mlt_tree.specs.Clips.{Wanted, Product, source_made}
 use Rattle.mlt_tree.specs.Composition.{Made}
-use Rattle.mlt_tree.specs.Loaded.{load_limit, file_within, picture_in, picture_made, with_loaded}
+use Rattle.mlt_tree.specs.Loaded.{load_limit, file_within, picture_in, picture_loaded, picture_made, with_loaded}
+use Rattle.mlt_tree.specs.Merging.{with_map, map_made}
 use Rattle.mlt_tree.specs.Loading as read
 use Rattle.mlt_tree.specs.Loading.{Files, Load, Read, found, look_up, plainly, done, ◌>>=◌}
 use Rattle.mlt_tree.specs.Refusing.{refuse, refusal_at}
-use Rattle.mlt_tree.specs.Show.{Drawn}
+use Rattle.mlt_tree.specs.Show.{Source, Drawn}
 use Rattle.melt_build.specs.declared.fault.BuildFault.{BuildFault}
-use Rattle.melt_build.specs.declared.fault.BuildFault.TheVariants.{Refused, SourceFault, Memory}
+use Rattle.melt_build.specs.declared.fault.BuildFault.TheVariants.{Refused, SourceFault}
 use Rattle.melt_build.specs.Failing.{fault_of}
 use Rattle.melt_build.specs.Loads.{names_of, Asks, Tells, Fails, Goes}
-use Rattle.melt_build.proofs.Going.{asks_none, goes_then, fails_first, plain_fails, memory_first, tells_first}
+use Rattle.melt_build.proofs.Going.{asks_none, fails_first, plain_fails}
+use Rattle.melt_build.proofs.Steps.{read_tells, read_fails, read_then}
 
 -- ---- one file
 
@@ -97,43 +99,64 @@ module _ (files : Files) (place : ℕ) (name : List ℕ) (limit : ℕ) where
     pub fails_reading : Fails (SourceFault place) (file_within files place name limit) a b
     fails_reading = record { before = []; name = name; rest = []; order = one_load; asked = asks_one name a b asked }
 
--- ---- the source of a picture's file
+-- ---- the picture of a file
 
-module _ (files : Files) (profile : Measures) (made : Made) (place : ℕ) (name : List ℕ) (asked : Wanted) (limit : ℕ) (is : limit ≡ load_limit made.loaded) where
+module _ (files : Files) (made : Made) (place : ℕ) (name : List ℕ) (limit : ℕ) (is : limit ≡ load_limit made.loaded) where
   abbrev bytes_step : Read (List ℕ)
   bytes_step = file_within files place name limit
 
-  abbrev picture_step : List ℕ → Read Picture
-  picture_step bytes = plainly (picture_in place (ppm bytes))
+  abbrev picture_step : List ℕ → Read (Made × Picture)
+  picture_step bytes = plainly (picture_in place (ppm bytes)) >>= λ picture. done (with_loaded made (length bytes), picture)
 
-  abbrev made_step : List ℕ → Picture → Read Product
-  made_step bytes picture = done (source_made profile (with_loaded made (length bytes)) (Drawn picture) asked)
+  abbrev whole : Read (Made × Picture)
+  whole = picture_loaded files made place name
 
-  abbrev whole : Read Product
-  whole = picture_made files profile made place name asked
-
-  whole_is : whole ≡ (bytes_step >>= λ bytes. picture_step bytes >>= made_step bytes)
-  unfolding picture_made
-  whole_is = ap (λ n. file_within files place name n >>= λ bytes. picture_step bytes >>= made_step bytes) (sym is)
+  whole_is : whole ≡ (bytes_step >>= picture_step)
+  unfolding picture_loaded
+  whole_is = ap (λ n. file_within files place name n >>= picture_step) (sym is)
 
   pub tells_bytes : (host : HostState) → Tells files whole host → Tells files bytes_step host
-  tells_bytes host tells = tells_first files bytes_step (λ bytes. picture_step bytes >>= made_step bytes) host (subst (λ step. Tells files step host) whole_is tells)
+  tells_bytes host tells = read_tells whole bytes_step picture_step whole_is files host tells
 
   pub bytes_fail : (fault : BuildFault) (a b : HostState) → Fails fault bytes_step a b → Fails fault whole a b
-  bytes_fail fault a b fails = subst (λ step. Fails fault step a b) (sym whole_is) (fails_first fault bytes_step (λ bytes. picture_step bytes >>= made_step bytes) a b fails)
+  bytes_fail fault a b fails = read_fails whole bytes_step picture_step whole_is fault a b fails
 
   module _ (bytes : List ℕ) (a b : HostState) (did : (bytes_step.end ≡ Ok bytes) × Asks (names_of bytes_step.loads) a b) where
-    behind : (fault : BuildFault) → Fails fault (picture_step bytes >>= made_step bytes) b b → Fails fault whole a b
-    behind fault fails =
-        subst (λ step. Fails fault step a b) (sym whole_is) (goes_then {X = List ℕ} {Y = Product} {Z = Product} (λ x. x) (Err fault) bytes_step (λ bytes. picture_step bytes >>= made_step bytes) bytes a b b did fails)
-
     pub picture_fails : (refused : Try Refusal) → tried.Fails refused (picture_in place (ppm bytes)) → Fails (fault_of refused) whole a b
     picture_fails refused fails =
-        behind (fault_of refused) (fails_first (fault_of refused) (picture_step bytes) (made_step bytes) b b (plain_fails refused (picture_in place (ppm bytes)) b b refl fails))
+        read_then whole bytes_step picture_step whole_is bytes a b did {Z = Made × Picture} (λ x. x) (Err (fault_of refused)) (fails_first (fault_of refused) (plainly (picture_in place (ppm bytes))) (λ picture. done (with_loaded made (length bytes), picture)) b b (plain_fails refused (picture_in place (ppm bytes)) b b refl fails))
 
-    pub memory_fails : Fails Memory whole a b
-    memory_fails = behind Memory (memory_first (picture_step bytes >>= made_step bytes) b b refl)
+    pub goes_loaded_picture : {X : Type 0} (view : X → Made × Picture) (x : X) (picture : Picture) → picture_in place (ppm bytes) ≡ Ok picture → view x ≡ (with_loaded made (length bytes), picture) → Goes view (Ok x) whole a b
+    goes_loaded_picture view x picture is made_is =
+        read_then whole bytes_step picture_step whole_is bytes a b did view (Ok x) (subst (λ r. Goes view (Ok x) (plainly r >>= λ picture. done (with_loaded made (length bytes), picture)) b b) (sym is) (ap Ok (sym made_is), asks_none b b refl))
 
-    pub goes_made : {X : Type 0} (view : X → Product) (x : X) (picture : Picture) → picture_in place (ppm bytes) ≡ Ok picture → view x ≡ source_made profile (with_loaded made (length bytes)) (Drawn picture) asked → Goes view (Ok x) whole a b
-    goes_made {X} view x picture is made_is =
-        subst (λ step. Goes view (Ok x) step a b) (sym whole_is) (goes_then view (Ok x) bytes_step (λ bytes. picture_step bytes >>= made_step bytes) bytes a b b did (subst (λ r. Goes view (Ok x) (plainly r >>= made_step bytes) b b) (sym is) (ap Ok (sym made_is), asks_none b b refl)))
+-- ---- the source of a picture's file
+
+module _ (files : Files) (profile : Measures) (made : Made) (place : ℕ) (name : List ℕ) (asked : Wanted) where
+  abbrev pub source_step : Made × Picture → Read Product
+  source_step read = done (source_made profile read.0 (Drawn read.1) asked)
+
+  pub source_is : picture_made files profile made place name asked ≡ (picture_loaded files made place name >>= source_step)
+  unfolding picture_made
+  source_is = refl
+
+-- ---- the source of a map
+
+module _ (files : Files) (made : Made) (place : ℕ) where
+  abbrev pub map_step : Made × Picture → Read (Made × Option SourceNo)
+  map_step read = done (with_map read.0 read.1)
+
+  pub no_map : map_made files made place None ≡ done (made, None)
+  unfolding map_made
+  no_map = refl
+
+  pub map_is : (name : List ℕ) → map_made files made place (Some name) ≡ (picture_loaded files made place name >>= map_step)
+  unfolding map_made
+  map_is name = refl
+
+abbrev source_at : ℕ → Option SourceNo
+source_at k = Some (record { 0 = k })
+
+pub map_gives : (mid : Made) (picture : Picture) (table : List Source) (source : SourceNo) → table ≡ mid.sources ++ Drawn picture ∷ [] → source.0 ≡ length mid.sources → with_map mid picture ≡ (record mid { sources = table }, Some source)
+map_gives mid picture table source added at =
+    ap (λ t. (record mid { sources = t }, source_at (length mid.sources))) (sym added) ∙ ap (λ k. (record mid { sources = table }, source_at k)) (sym at)

@@ -1,5 +1,5 @@
 -- What holds of each entry of a list holds after an edit, where it holds of what is put in.
-use Rattle.std.proofs.Common.{ℕ, ◌≡◌, ◌+◌, ◌-◌, ◌<◌, ◌≤◌, ◌^◌, ℤ, pos, negsuc, Bool, true, false, ◌&&◌, cond, ltb, ltb-true, leb, leb-true, List, [], ◌∷◌, ◌++◌, length, take, drop, replicate, slice_get, Option, None, Some, Ok, Err, All, refl, ap, subst, arith, length-take, length-drop}
+use Rattle.std.proofs.Common.{ℕ, ◌≡◌, ◌+◌, ◌-◌, min, ◌<◌, ◌≤◌, ◌^◌, ℤ, pos, negsuc, Bool, true, false, ◌&&◌, cond, ltb, ltb-true, leb, leb-true, List, [], ◌∷◌, ◌++◌, length, take, drop, replicate, slice_get, Option, None, Some, Ok, Err, All, refl, ap, subst, arith, length-take, length-drop}
 use Rattle.std.proofs.lemmas.Bool.{and_parts}
 use Rattle.std.proofs.lemmas.List.Sums.{sum_by-cons}
 use Rattle.std.proofs.lemmas.List.Elements.{All-nil, All-cons, All-tail, All-head, All-append, All-take, All-drop, All-replicate, All-get_or, All-weaker}
@@ -14,11 +14,12 @@ use Rattle.mlt_tree.specs.declared.entry.Entry.{Entry}
 use Rattle.mlt_tree.specs.declared.entry.Entry.TheVariants.{Clip, Gap}
 use Rattle.mlt_tree.specs.Ranges.{IsEntry, frames}
 use Rattle.mlt_tree.specs.Edits as edit
-use Rattle.mlt_tree.specs.Edits.{Edit, grown, frames_in, replaced, with_entry, bad_clip, cut, clip, halves, before_split}
+use Rattle.mlt_tree.specs.Edits.{Edit, grown, Mixed, frames_in, replaced, with_entry, bad_clip, cut, clip, halves, before_split, mixed_of, mixed_parts}
+use Rattle.mlt_tree.specs.Units.{IsEntryBelow, AreEntriesBelow}
 use Rattle.mlt_playlist.specs.Playlist.{IsList}
 use Rattle.melt_build.specs.State.{IsKnown}
 use Rattle.mlt_playlist.proofs.Counts.{frames_in-part}
-use Rattle.mlt_playlist.proofs.Frames.{has_frame}
+use Rattle.mlt_playlist.proofs.Frames.{has_frame, frames-cut, frames-one, IsEntry-cut}
 
 -- an answer and a list
 abbrev answered : {A : Type 0} → A → List Entry → Edit A
@@ -149,6 +150,53 @@ module _ (P : Entry → Type 0) where
         subst (All P) (edit_one part gs (replaced es at n (clip unit 0 (frames_in part - 1) [] ∷ [])) fs h).1 (keeps_replaced es (clip unit 0 (frames_in part - 1) [] ∷ []) at n all (All-cons P (clip unit 0 (frames_in part - 1) []) [] new (All-nil P)))
     by false h = absurd (not_refused _ gs fs h)
 
+-- a mix has two entries, which overlap
+pub record IsMixed (at n unit : ℕ) (es : List Entry) (y : Mixed) (fs : List Entry) : Type 0 where
+  pub a : Entry
+  pub b : Entry
+  pub rest : List Entry
+  pub here : drop at es ≡ a ∷ b ∷ rest
+  pub parts : mixed_parts (min n (min (frames a) (frames b))) a b ≡ y
+  pub list : replaced es at 2 (mixed_of unit (min n (min (frames a) (frames b))) a b) ≡ fs
+
+pub mixed_is : (at n unit : ℕ) (es fs : List Entry) (y : Mixed) → edit.mix at n unit es ≡ answered y fs → IsMixed at n unit es y fs
+mixed_is at n unit es fs y h = by (drop at es) refl h where
+  run : List Entry → Edit Mixed
+  run [] = edit.too_few es at 2
+  run (a ∷ []) = edit.too_few es at 2
+  run (a ∷ b ∷ rest) =
+      grown (mixed_parts (min n (min (frames a) (frames b))) a b) (replaced es at 2 (mixed_of unit (min n (min (frames a) (frames b))) a b))
+
+  by : (behind : List Entry) → drop at es ≡ behind → run behind ≡ answered y fs → IsMixed at n unit es y fs
+  by [] is h = absurd (not_refused _ y fs h)
+  by (a ∷ []) is h = absurd (not_refused _ y fs h)
+  by (a ∷ b ∷ rest) is h =
+      let m : ℕ = min n (min (frames a) (frames b)) in
+      let same = grown_is (mixed_parts m a b) y (replaced es at 2 (mixed_of unit m a b)) fs h in
+      record { a = a; b = b; rest = rest; here = is; parts = same.0; list = same.1 }
+
+module _ (P : Entry → Type 0) (cuts : (e : Entry) (a b : ℕ) → 1 ≤ b → b ≤ frames e → P e → P (cut e a b)) where
+  left_part : (m : ℕ) (a : Entry) → P a → All P (cond (ltb m (frames a)) (cut a 0 (frames a - m) ∷ []) [])
+  left_part m a here = by (ltb m (frames a)) refl where
+    by : (t : Bool) → ltb m (frames a) ≡ t → All P (cond t (cut a 0 (frames a - m) ∷ []) [])
+    by true h =
+        let less : m < frames a = ltb-true m (frames a) h in
+        All-cons P (cut a 0 (frames a - m)) [] (cuts a 0 (frames a - m) (omega (arith, less)) (omega arith) here) (All-nil P)
+    by false h = All-nil P
+
+  right_part : (m : ℕ) (b : Entry) → P b → All P (cond (ltb m (frames b)) (cut b m (frames b) ∷ []) [])
+  right_part m b here = by (ltb m (frames b)) refl where
+    by : (t : Bool) → ltb m (frames b) ≡ t → All P (cond t (cut b m (frames b) ∷ []) [])
+    by true h =
+        let less : m < frames b = ltb-true m (frames b) h in
+        All-cons P (cut b m (frames b)) [] (cuts b m (frames b) (omega (arith, less)) (omega arith) here) (All-nil P)
+    by false h = All-nil P
+
+  pub keeps_mixed : (unit m : ℕ) (a b : Entry) → P a → P b → P (clip unit 0 (m - 1) []) → All P (mixed_of unit m a b)
+  keeps_mixed unit m a b first second new =
+      let behind : List Entry = cond (ltb m (frames b)) (cut b m (frames b) ∷ []) [] in
+      All-append P (cond (ltb m (frames a)) (cut a 0 (frames a - m) ∷ []) []) (clip unit 0 (m - 1) [] ∷ behind) (left_part m a first) (All-cons P (clip unit 0 (m - 1) []) behind new (right_part m b second))
+
 -- what is joined is a part of the list
 pub joined_is : (at n unit : ℕ) (es fs gs : List Entry) → edit.join at n unit es ≡ answered gs fs → take n (drop at es) ≡ gs
 joined_is at n unit es fs gs h = by (ltb 0 n && leb (at + n) (length es)) h where
@@ -201,3 +249,56 @@ joined_frames at n unit es fs gs list h = by (ltb 0 n && leb (at + n) (length es
       let some : 1 ≤ frames_in part = some_frames part (All-take IsEntry n (drop at es) (All-drop IsEntry at es list.entries)) many in
       subst (λ p. (1 ≤ frames_in p) × (frames_in p < 2 ^ 31)) same (some, omega (arith, frames_in-part es at n, list.short))
   by false tests h = absurd (not_refused _ gs fs h)
+
+-- ---- mixes
+
+-- the parts of a mix, of which each has as many frames
+pub record AreParts (count : ℕ) (y : Mixed) : Type 0 where
+  pub below : AreEntriesBelow count (y.a ∷ y.b ∷ [])
+  pub frames_are : (frames y.a ≡ y.frames) × (frames y.b ≡ y.frames)
+  pub some : 1 ≤ y.frames
+  pub short : y.frames < 2 ^ 31
+
+first_frames : (es : List Entry) (at : ℕ) (a b : Entry) (rest : List Entry) → drop at es ≡ a ∷ b ∷ rest → frames a ≤ frames_in es
+first_frames es at a b rest here =
+    omega (arith, frames_in-part es at 1, ap (λ es. frames_in (take 1 es)) here, frames-one a)
+
+pub mixed_parts_are : (count at n unit : ℕ) (es fs : List Entry) (y : Mixed) → 1 ≤ n → IsList es → All (IsKnown count) es → edit.mix at n unit es ≡ answered y fs → AreParts count y
+mixed_parts_are count at n unit es fs y some list all done =
+    let h = mixed_is at n unit es fs y done in
+    let a : Entry = h.a in
+    let b : Entry = h.b in
+    let m : ℕ = min n (min (frames a) (frames b)) in
+    let entries : All IsEntry (a ∷ b ∷ h.rest) = subst (All IsEntry) h.here (All-drop IsEntry at es list.entries) in
+    let known : All (IsKnown count) (a ∷ b ∷ h.rest) = subst (All (IsKnown count)) h.here (All-drop (IsKnown count) at es all) in
+    let first : IsEntry a = All-head IsEntry a (b ∷ h.rest) entries in
+    let second : IsEntry b = All-head IsEntry b h.rest (All-tail IsEntry a (b ∷ h.rest) entries) in
+    let known_a : IsKnown count a = All-head (IsKnown count) a (b ∷ h.rest) known in
+    let known_b : IsKnown count b = All-head (IsKnown count) b h.rest (All-tail (IsKnown count) a (b ∷ h.rest) known) in
+    let has : 1 ≤ m = omega (arith, some, has_frame a first, has_frame b second) in
+    let left : m ≤ frames a = omega arith in
+    let right : m ≤ frames b = omega arith in
+    let cut_a : Entry = cut a (frames a - m) (frames a) in
+    let cut_b : Entry = cut b 0 m in
+    let starts : frames a - m < frames a = omega (arith, has, left) in
+    subst (AreParts count) h.parts (record {
+      below = record {
+        below = All-cons (IsEntryBelow count) cut_a (cut_b ∷ []) (cut_known count a (frames a - m) (frames a) (has_frame a first) (omega arith) known_a).below (All-cons (IsEntryBelow count) cut_b [] (cut_known count b 0 m has right known_b).below (All-nil (IsEntryBelow count)));
+        ranges = All-cons IsEntry cut_a (cut_b ∷ []) (IsEntry-cut a (frames a - m) (frames a) first starts) (All-cons IsEntry cut_b [] (IsEntry-cut b 0 m second has) (All-nil IsEntry));
+      };
+      frames_are = (omega (arith, frames-cut a (frames a - m) (frames a) starts, left), omega (arith, frames-cut b 0 m has));
+      some = has;
+      short = omega (arith, left, first_frames es at a b h.rest h.here, list.short);
+    })
+
+-- what is known of the entries is known behind a mix, with the clip of a unit that is there
+pub mixed_known : (count at n unit : ℕ) (es fs : List Entry) (y : Mixed) → unit < count → y.frames < 2 ^ 31 → All (IsKnown count) es → edit.mix at n unit es ≡ answered y fs → All (IsKnown count) fs
+mixed_known count at n unit es fs y there short all done =
+    let h = mixed_is at n unit es fs y done in
+    let m : ℕ = min n (min (frames h.a) (frames h.b)) in
+    let known : All (IsKnown count) (h.a ∷ h.b ∷ h.rest) = subst (All (IsKnown count)) h.here (All-drop (IsKnown count) at es all) in
+    let first : IsKnown count h.a = All-head (IsKnown count) h.a (h.b ∷ h.rest) known in
+    let second : IsKnown count h.b = All-head (IsKnown count) h.b h.rest (All-tail (IsKnown count) h.a (h.b ∷ h.rest) known) in
+    let frames_of : m ≡ y.frames = ap (λ (y : Mixed). y.frames) h.parts in
+    let new : IsKnown count (clip unit 0 (m - 1) []) = record { below = there; short = omega (arith, frames_of, short) } in
+    subst (All (IsKnown count)) h.list (keeps_replaced (IsKnown count) es (mixed_of unit m h.a h.b) at 2 all (keeps_mixed (IsKnown count) (cut_known count) unit m h.a h.b first second new))

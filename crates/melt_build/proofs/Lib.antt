@@ -5,11 +5,15 @@ mod Hosted
 mod Keeps
 mod Levels
 mod Looked
+mod Merged
+mod Mixed
 mod Over
+mod Planted
 mod Producers
 mod Sealed
 mod Shown
 mod Sourced
+mod Steps
 mod Texts
 mod Tracks
 mod WordsCounted

@@ -4,6 +4,7 @@ use Rattle.mlt_tree.specs.declared.refusal.Refusal.{Refusal}
 use Rattle.mlt_tree.specs.declared.group.Group.{Group}
 use Rattle.mlt_tree.specs.declared.group.GroupKind.TheVariants as kind
 use Rattle.mlt_tree.specs.Composing.{producer, effect, composed}
+use Rattle.mlt_tree.specs.Merging.{transition, mixer}
 use Rattle.mlt_base.specs.Profile.{Measures}
 use Rattle.mlt_tree.specs.Composition.{State, start}
 use Rattle.mlt_tree.specs.Sealing.{framed}
@@ -26,6 +27,15 @@ composed_framed files count gs frames h = ap (λ r. plainly r >>= λ frames. thr
 pub effect_producer : (files : Files) (s : State) (g : Group) → g.kind ≡ kind.Producer → effect files s g ≡ producer files s g
 unfolding effect
 effect_producer files s g h = rw h refl
+
+-- one of a merge
+pub effect_transition : (files : Files) (s : State) (g : Group) → g.kind ≡ kind.Transition → effect files s g ≡ transition files s g
+unfolding effect
+effect_transition files s g h = rw h refl
+
+pub effect_mixer : (files : Files) (s : State) (g : Group) → g.kind ≡ kind.Mixer → effect files s g ≡ mixer files s g
+unfolding effect
+effect_mixer files s g h = rw h refl
 
 -- the rest of the elements, where one is next
 through_next : {S X : Type 0} (step : S → X → Read S) (s : S) (xs : List X) (i : ℕ) (x : X) → i < length xs → x ≡ get_or xs i x → through step s (drop i xs) ≡ (step s x >>= λ t. through step t (drop (i + 1) xs))

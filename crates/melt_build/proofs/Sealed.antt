@@ -1,11 +1,13 @@
 -- What sealing a graph refuses is what the definitions refuse.
-use Rattle.std.proofs.Common.{ℕ, ◌≡◌, ◌⊎◌, ◌<◌, ◌≤◌, Bool, true, false, cond, ltb, ltb-true, leb, nat_eq, List, [], ◌∷◌, ◌++◌, length, get_or, Result, Ok, Err, inl, inr, zero, suc, refl, sym, ap, ◌∙◌, subst, arith}
+use Rattle.std.proofs.Common.{ℕ, ◌≡◌, ◌<◌, ◌≤◌, Bool, true, false, cond, ltb, ltb-true, leb, nat_eq, List, [], ◌∷◌, ◌++◌, length, get_or, Option, None, Some, Result, Ok, Err, refl, sym, ap, ◌∙◌, subst, arith}
 use Rattle.std.proofs.Math.Seq.{get_or-append_seam}
 use Rattle.std.proofs.lemmas.Bool.Decides.{nat_tests}
 use Rattle.std.proofs.lemmas.Grind.{common_steps}
 use Rattle.std.proofs.lemmas.List.{get_or_append_left}
 use Rattle.mlt_base.specs.Steps.{◌>>=◌}
 use Rattle.mlt_base.specs.Try.{Fails}
+use Rattle.mlt_base.specs.declared.refusal.Try.{Try}
+use Rattle.mlt_base.specs.declared.refusal.Try.TheVariants as try
 use Rattle.mlt_tree.specs.declared.node.Node.{Node}
 use Rattle.mlt_tree.specs.declared.refusal.Cause.TheVariants as cause
 use Rattle.mlt_tree.specs.declared.refusal.Refusal.{Refusal}
@@ -14,17 +16,22 @@ use Rattle.mlt_tree.specs.Show.{Source}
 use Rattle.mlt_tree.specs.Sources.{FitsBody}
 use Rattle.melt_build.specs.State.{FitsUnits}
 use Rattle.mlt_tree.specs.Composition.{State}
-use Rattle.mlt_tree.specs.Sealing.{sealable, show_of_tree, all_units, whole_tree}
+use Rattle.mlt_tree.specs.Sealing.{plants_placed, sealable, show_of_tree, all_units, whole_tree}
 use Rattle.mlt_tree.specs.Sealing.{seal as seal_of}
 use Rattle.mlt_tree.specs.Sizes.{weight}
 use Rattle.mlt_tree.specs.Tree.{Tree, len}
-use Rattle.mlt_tree.specs.Units.{Level, tree_of, depth_of, node_tree, tractor_of}
+use Rattle.mlt_tree.specs.Units.{Level, tree_of, depth_of, node_tree, tractor_of, drafts_of, Misplaced, OffTracks, Doubled, level_misplaced}
 use Rattle.mlt_graph.specs.declared.fault.GraphFault.{GraphFault}
-use Rattle.mlt_graph.specs.declared.fault.GraphFault.TheVariants.{NoProducer, TooDeep, TooMany, Memory}
+use Rattle.mlt_graph.specs.declared.fault.GraphFault.TheVariants.{BadTrack, SameTrack, NoProducer, TooDeep, TooMany}
+use Rattle.mlt_graph.specs.Graph.{misplaced_fault, tractor_fault, FailsBy}
 use Rattle.mlt_graph.specs.Seal.{seal}
 use Rattle.mlt_graph.specs.Sealed.{Shown}
 use Rattle.mlt_graph.proofs.Trees.{tree_of-new}
-use Rattle.melt_build.specs.Built.{refusal_of}
+use Rattle.melt_build.specs.Built.{refusal_of, checked}
+
+-- a graph's fault, as a call gives it
+abbrev failed : {A : Type 0} → GraphFault → Result A GraphFault
+failed fault = Err fault
 
 abbrev err_or : {A E : Type 0} → E → Result A E → E
 err_or d (Ok x) = d
@@ -61,39 +68,105 @@ nothing_there count us level h =
     let none : len t ≡ 0 = ap len (tree_of-new us (tractor_of level)) ∙ h in
     rw none refl
 
+-- ---- what is planted, and then the graph
+
 -- a tractor that is refused
-pub not_added : (count : ℕ) (us : List Node) (level : Level) (fault : GraphFault) → (fault ≡ NoProducer) ⊎ (fault ≡ Memory) → (fault ≡ NoProducer → len (node_tree (tree_of us) (tractor_of level)) ≡ 0) → Fails (refusal_of count fault) (sealable count (us ++ tractor_of level ∷ []) (length us))
-not_added count us level fault (inl is) none =
-    subst (λ f. Fails (refusal_of count f) (sealable count (us ++ tractor_of level ∷ []) (length us))) (sym is) (nothing_there count us level (none is))
-not_added count us level fault (inr is) none =
-    subst (λ f. Fails (refusal_of count f) (sealable count (us ++ tractor_of level ∷ []) (length us))) (sym is) tt
+pub not_added : (A : Type 0) (count : ℕ) (places : List ℕ) (us : List Node) (level : Level) (fault : GraphFault) → FailsBy {A = A} (tractor_fault level (len (node_tree (tree_of us) (tractor_of level)))) (Err fault) → Fails (refusal_of count places fault) (checked count places (length (drafts_of level)) (level_misplaced level) (us ++ tractor_of level ∷ []) (length us))
+not_added A count places us level fault h = by (level_misplaced level) refl h where
+  frames : ℕ
+  frames = len (node_tree (tree_of us) (tractor_of level))
+
+  tracks : ℕ
+  tracks = length (drafts_of level)
+
+  all : List Node
+  all = us ++ tractor_of level ∷ []
+
+  IsRefused : GraphFault → Option (ℕ × Misplaced) → Type 0
+  IsRefused fault wrong = Fails (refusal_of count places fault) (checked count places tracks wrong all (length us))
+
+  fault_by : Option (ℕ × Misplaced) → Option GraphFault
+  fault_by (Some wrong) = Some (misplaced_fault tracks wrong)
+  fault_by None = cond (nat_eq frames 0) (Some NoProducer) None
+
+  same : (a b : GraphFault) → failed {A = A} a ≡ failed b → b ≡ a
+  same a b h = ap (err_or b) (sym h)
+
+  none : (t : Bool) → nat_eq frames 0 ≡ t → FailsBy {A = A} (cond t (Some NoProducer) None) (Err fault) → IsRefused fault None
+  none true is h =
+      let empty : frames ≡ 0 = grind (arith, nat_tests) in
+      subst (λ f. IsRefused f None) (same fault NoProducer h) (nothing_there count us level empty)
+  none false is h = subst (λ f. IsRefused f None) (sym h) tt
+
+  by : (wrong : Option (ℕ × Misplaced)) → level_misplaced level ≡ wrong → FailsBy {A = A} (fault_by wrong) (Err fault) → IsRefused fault wrong
+  by None is h = none (nat_eq frames 0) refl h
+  by (Some (plant, OffTracks track)) is h = subst (λ f. IsRefused f (Some (plant, OffTracks track))) (same fault (BadTrack plant track tracks) h) refl
+  by (Some (plant, Doubled track)) is h = subst (λ f. IsRefused f (Some (plant, Doubled track))) (same fault (SameTrack plant track) h) refl
+
+-- a tractor that is added has its plants on tracks that are there, and a frame
+pub record IsAdded (us : List Node) (level : Level) : Type 0 where
+  pub on_tracks : level_misplaced level ≡ None
+  pub some : 1 ≤ len (tree_of (us ++ tractor_of level ∷ []) (length us))
+
+pub added_is : {A : Type 0} (us : List Node) (level : Level) (x : A) → FailsBy (tractor_fault level (len (node_tree (tree_of us) (tractor_of level)))) (Ok x) → IsAdded us level
+added_is {A} us level x h = by (level_misplaced level) refl h where
+  frames : ℕ
+  frames = len (node_tree (tree_of us) (tractor_of level))
+
+  tracks : ℕ
+  tracks = length (drafts_of level)
+
+  fault_by : Option (ℕ × Misplaced) → Option GraphFault
+  fault_by (Some wrong) = Some (misplaced_fault tracks wrong)
+  fault_by None = cond (nat_eq frames 0) (Some NoProducer) None
+
+  not_both : (fault : GraphFault) → FailsBy (Some fault) (Ok x) → ⊥
+  not_both fault h = grind arith
+
+  some : (t : Bool) → nat_eq frames 0 ≡ t → FailsBy (cond t (Some NoProducer) None) (Ok x) → 1 ≤ frames
+  some true is h = absurd (not_both NoProducer h)
+  some false is h = grind (arith, nat_tests)
+
+  by : (wrong : Option (ℕ × Misplaced)) → level_misplaced level ≡ wrong → FailsBy (fault_by wrong) (Ok x) → IsAdded us level
+  by None is h = record {
+    on_tracks = is;
+    some = omega (arith, ap len (tree_of-new us (tractor_of level)), some (nat_eq frames 0) refl h);
+  }
+  by (Some wrong) is h = absurd (not_both (misplaced_fault tracks wrong) h)
 
 -- a graph that is refused
-pub not_sealed : (count : ℕ) (us : List Node) (top : ℕ) (fault : GraphFault) → 1 ≤ len (tree_of us top) → seal us top ≡ Err fault → Fails (refusal_of count fault) (sealable count us top)
-not_sealed count us top fault some h =
+pub not_sealed : (count : ℕ) (places : List ℕ) (us : List Node) (top : ℕ) (fault : GraphFault) → 1 ≤ len (tree_of us top) → seal us top ≡ Err fault → Fails (refusal_of count places fault) (sealable count us top)
+not_sealed count places us top fault some h =
     by (ltb 16 (depth_of us top)) refl (ltb 65536 (weight (tree_of us top))) refl h
   where
     frames : nat_eq (len (tree_of us top)) 0 ≡ false
     frames = equals_none (len (tree_of us top)) some
 
-    by : (b : Bool) → ltb 16 (depth_of us top) ≡ b → (c : Bool) → ltb 65536 (weight (tree_of us top)) ≡ c → outcome b c (TooDeep (depth_of us top)) (TooMany 65536) (record { units = us; top = top }) ≡ Err fault → Fails (refusal_of count fault) (sealable count us top)
+    by : (b : Bool) → ltb 16 (depth_of us top) ≡ b → (c : Bool) → ltb 65536 (weight (tree_of us top)) ≡ c → outcome b c (TooDeep (depth_of us top)) (TooMany 65536) (record { units = us; top = top }) ≡ Err fault → Fails (refusal_of count places fault) (sealable count us top)
     by true deep c heavy h =
-        subst (λ f. Fails (refusal_of count f) (sealable count us top)) (ap (err_or fault) h) (tested count us top false false (leb (weight (tree_of us top)) 65536) frames (greater 16 (depth_of us top) deep) refl)
+        subst (λ f. Fails (refusal_of count places f) (sealable count us top)) (ap (err_or fault) h) (tested count us top false false (leb (weight (tree_of us top)) 65536) frames (greater 16 (depth_of us top) deep) refl)
     by false deep true heavy h =
-        subst (λ f. Fails (refusal_of count f) (sealable count us top)) (ap (err_or fault) h) (tested count us top false true false frames (not_greater 16 (depth_of us top) deep) (greater 65536 (weight (tree_of us top)) heavy))
+        subst (λ f. Fails (refusal_of count places f) (sealable count us top)) (ap (err_or fault) h) (tested count us top false true false frames (not_greater 16 (depth_of us top) deep) (greater 65536 (weight (tree_of us top)) heavy))
     by false deep false heavy h = let apart : ⊥ = grind arith in absurd apart
 
-pub not_both : {A : Type 0} → (x : A) → (Ok x ≡ (Err NoProducer)) → ⊥
-not_both x h = grind arith
+-- a graph that is sealed
+pub sealed_well : (count : ℕ) (us : List Node) (top : ℕ) (shown : Shown) → 1 ≤ len (tree_of us top) → seal us top ≡ Ok shown → sealable count us top ≡ Ok tt
+sealed_well count us top shown some h =
+    by (ltb 16 (depth_of us top)) refl (ltb 65536 (weight (tree_of us top))) refl h
+  where
+    frames : nat_eq (len (tree_of us top)) 0 ≡ false
+    frames = equals_none (len (tree_of us top)) some
 
-at_least_one : (n : ℕ) → (n ≡ 0 → ⊥) → 1 ≤ n
-at_least_one zero h = absurd (h refl)
-at_least_one (suc n) h = omega arith
+    by : (b : Bool) → ltb 16 (depth_of us top) ≡ b → (c : Bool) → ltb 65536 (weight (tree_of us top)) ≡ c → outcome b c (TooDeep (depth_of us top)) (TooMany 65536) (record { units = us; top = top }) ≡ Ok shown → sealable count us top ≡ Ok tt
+    by true deep c heavy h = let apart : ⊥ = grind arith in absurd apart
+    by false deep true heavy h = let apart : ⊥ = grind arith in absurd apart
+    by false deep false heavy h =
+        tested count us top false true true frames (not_greater 16 (depth_of us top) deep) (not_greater 65536 (weight (tree_of us top)) heavy)
 
--- a tractor that is added has a frame
-pub there_is : (us : List Node) (level : Level) → (len (node_tree (tree_of us) (tractor_of level)) ≡ 0 → ⊥) → 1 ≤ len (tree_of (us ++ tractor_of level ∷ []) (length us))
-there_is us level some =
-    at_least_one (len (tree_of (us ++ tractor_of level ∷ []) (length us))) (λ none. some (sym (ap len (tree_of-new us (tractor_of level))) ∙ none))
+-- what is said of the graph is said of the whole, where the plants are on tracks that are there
+pub checked_is : (count : ℕ) (places : List ℕ) (us : List Node) (level : Level) (all : List Node) (top : ℕ) → IsAdded us level → checked count places (length (drafts_of level)) (level_misplaced level) all top ≡ sealable count all top
+checked_is count places us level all top added =
+    ap (λ wrong. checked count places (length (drafts_of level)) wrong all top) added.on_tracks
 
 last_unit : (us : List Node) (u : Node) (unit : ℕ) → unit < length (us ++ u ∷ []) → ltb unit (length us) ≡ false → unit ≡ length us
 last_unit us u unit below outside = grind (arith, common_steps, nat_tests)
@@ -109,6 +182,20 @@ fits_more table us u own h unit node below is = by (ltb unit (length us)) refl w
       subst (λ n. FitsBody table n.body) (sym (is ∙ ap (λ k. get_or (us ++ u ∷ []) k node) last ∙ get_or-append_seam us u [] node)) own
 
 -- a composition that can be sealed is the show of its tree
-pub seal-tree : (count : ℕ) (s : State) → sealable count (all_units s) (length s.made.units) ≡ Ok tt → seal_of count s ≡ show_of_tree count s (whole_tree s)
+pub seal-tree : (count : ℕ) (s : State) → checked count s.plant_places (length (drafts_of s.level)) (level_misplaced s.level) (all_units s) (length s.made.units) ≡ Ok tt → seal_of count s ≡ show_of_tree count s (whole_tree s)
 unfolding seal_of
-seal-tree count s h = ap (λ (r : Result (Unit {0}) Refusal). r >>= λ whole. show_of_tree count s (whole_tree s)) h
+seal-tree count s h = by (plants_placed s) (sealable count (all_units s) (length s.made.units)) h where
+  by : (a b : Result (Unit {0}) Refusal) → (a >>= λ on_tracks. b) ≡ Ok tt → (a >>= λ on_tracks. b >>= λ whole. show_of_tree count s (whole_tree s)) ≡ show_of_tree count s (whole_tree s)
+  by (Ok x) (Ok y) h = refl
+  by (Ok x) (Err e) h = let apart : ⊥ = grind arith in absurd apart
+  by (Err e) b h = let apart : ⊥ = grind arith in absurd apart
+
+-- one that can't is refused
+pub seal-fails : (count : ℕ) (s : State) (refused : Try Refusal) → Fails refused (checked count s.plant_places (length (drafts_of s.level)) (level_misplaced s.level) (all_units s) (length s.made.units)) → Fails refused (seal_of count s)
+unfolding seal_of
+seal-fails count s (try.Fault refusal) h = by (plants_placed s) (sealable count (all_units s) (length s.made.units)) h where
+  by : (a b : Result (Unit {0}) Refusal) → (a >>= λ on_tracks. b) ≡ Err refusal → (a >>= λ on_tracks. b >>= λ whole. show_of_tree count s (whole_tree s)) ≡ Err refusal
+  by (Ok x) (Ok y) h = let apart : ⊥ = grind arith in absurd apart
+  by (Ok x) (Err e) h = ap (λ (r : Result (Unit {0}) Refusal). r >>= λ whole. show_of_tree count s (whole_tree s)) h
+  by (Err e) b h = ap (λ (r : Result (Unit {0}) Refusal). r >>= λ whole. show_of_tree count s (whole_tree s)) h
+seal-fails count s try.Memory h = tt

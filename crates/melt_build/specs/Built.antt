@@ -1,16 +1,26 @@
 -- What building a show answers, against what the groups mean.
-use Rattle.std.specs.Prelude.{ℕ}
+use Rattle.std.specs.Prelude.{ℕ, List, get_or, Option, Result}
+use Rattle.mlt_base.specs.Steps.{◌>>=◌}
 use Rattle.mlt_base.specs.declared.refusal.Try.{Try}
 use Rattle.mlt_base.specs.declared.refusal.Try.TheVariants.{Fault, Memory}
 use Rattle.mlt_tree.specs.declared.refusal.Cause.TheVariants as cause
 use Rattle.mlt_tree.specs.declared.refusal.Refusal.{Refusal}
+use Rattle.mlt_tree.specs.declared.node.Node.{Node}
 use Rattle.mlt_tree.specs.Refusing.{refusal_at}
+use Rattle.mlt_tree.specs.Sealing.{placed, sealable}
+use Rattle.mlt_tree.specs.Units.{Misplaced}
 use Rattle.mlt_graph.specs.declared.fault.GraphFault.{GraphFault}
 use Rattle.mlt_graph.specs.declared.fault.GraphFault.TheVariants as graph
 
--- a graph's refusal, at a place
-abbrev pub refusal_of : ℕ → GraphFault → Try Refusal
-refusal_of place graph.NoProducer = Fault (refusal_at place cause.NoProducer)
-refusal_of place (graph.TooDeep depth) = Fault (refusal_at place (cause.TooDeep depth))
-refusal_of place (graph.TooMany limit) = Fault (refusal_at place (cause.TooMany limit))
-refusal_of place graph.Memory = Memory
+-- a graph's refusal, at a place; that of a plant is at the place of its group
+abbrev pub refusal_of : ℕ → (plants : List ℕ) → GraphFault → Try Refusal
+refusal_of place plants (graph.BadTrack plant track tracks) = Fault (refusal_at (get_or plants plant 0) (cause.BadTrack track tracks))
+refusal_of place plants (graph.SameTrack plant track) = Fault (refusal_at (get_or plants plant 0) (cause.SameTrack track))
+refusal_of place plants graph.NoProducer = Fault (refusal_at place cause.NoProducer)
+refusal_of place plants (graph.TooDeep depth) = Fault (refusal_at place (cause.TooDeep depth))
+refusal_of place plants (graph.TooMany limit) = Fault (refusal_at place (cause.TooMany limit))
+refusal_of place plants graph.Memory = Memory
+
+-- what is planted is on tracks that are there, and then the unit on top can be sealed
+abbrev pub checked : (count : ℕ) (places : List ℕ) (tracks : ℕ) → Option (ℕ × Misplaced) → List Node → (top : ℕ) → Result (Unit {0}) Refusal
+checked count places tracks wrong units top = placed places tracks wrong >>= λ on_tracks. sealable count units top

@@ -7,6 +7,7 @@ pub mod Given
 pub mod Loaded
 pub mod Loads
 pub mod Object
+pub mod Plant
 pub mod Reads
 pub mod Service
 pub mod State

@@ -1,18 +1,19 @@
 -- What a composition as far as it is read means.
-use Rattle.std.specs.Prelude.{ℕ, ◌≡◌, ◌<◌, ◌≤◌, ◌^◌, List, [], length, get_or, All}
+use Rattle.std.specs.Prelude.{ℕ, ◌≡◌, ◌<◌, ◌≤◌, ◌^◌, List, length, get_or, All, IfSome}
 use Rattle.std.specs.Option.{option_map}
 use Rattle.mlt_tree.specs.declared.limits.TheConstants.{MOST_LOADED}
 use Rattle.mlt_base.specs.ProfileView.{measures_of}
 use Rattle.mlt_tree.specs.declared.draft.Draft.{Draft}
+use Rattle.mlt_tree.specs.declared.draft.PendingPlant.{PendingPlant}
+use Rattle.mlt_tree.specs.declared.draft.PendingPlant.TheVariants.{OnTrack, Between}
 use Rattle.mlt_tree.specs.declared.entry.Entry.{Entry}
 use Rattle.mlt_tree.specs.declared.entry.Entry.TheVariants.{Clip, Gap}
 use Rattle.mlt_tree.specs.declared.node.Node.{Node}
 use Rattle.mlt_tree.specs.Clips as clip
 use Rattle.mlt_tree.specs.Composition as meaning
 use Rattle.mlt_tree.specs.Show.{Source}
-use Rattle.mlt_tree.specs.Sources.{FitsBody}
-use Rattle.mlt_tree.specs.Unbuilt.{HasNoPlant}
-use Rattle.mlt_tree.specs.Units.{Level, IsEntryBelow}
+use Rattle.mlt_tree.specs.Sources.{FitsBody, HasPicture, maps_of_merge}
+use Rattle.mlt_tree.specs.Units.{Level, IsEntryBelow, IsMix}
 use Rattle.mlt_graph.specs.Show.{pix_of}
 use Rattle.melt_build.specs.declared.consumer.Consumer.{Consumer}
 use Rattle.melt_build.specs.declared.wanted.Cut.{Cut}
@@ -69,22 +70,30 @@ pub record IsKnown (count : ℕ) (e : Entry) : Type 0 where
 abbrev pub IsKnownDraft : ℕ → Draft → Type 0
 IsKnownDraft count draft = All (IsKnown count) draft.entries
 
--- tracks of such entries, with nothing planted
-pub record IsKnownLevel (count : ℕ) (level : Level) : Type 0 where
+-- the table has the map of a plant, where it has one
+abbrev pub HasMap : List Source → PendingPlant → Type 0
+HasMap table (OnTrack track spec first last) = Unit {0}
+HasMap table (Between a b spec first last) = All (HasPicture table) (maps_of_merge spec)
+
+-- tracks of such entries, and plants whose maps are in the table
+pub record IsKnownLevel (count : ℕ) (table : List Source) (level : Level) : Type 0 where
   pub closed : All (IsKnownDraft count) level.closed
   pub current : IsKnownDraft count level.current
-  pub plants : level.plants ≡ []
+  pub maps : All (HasMap table) level.plants
 
--- nothing is planted on a unit
-abbrev pub IsUnplantedNode : Node → Type 0
-IsUnplantedNode node = HasNoPlant node.body
-
--- units and sources that fit each other, with nothing planted, and not too many bytes loaded
+-- units and sources that fit each other, and not too many bytes loaded
 pub record IsMade (made : Made) : Type 0 where
   pub few : made.loaded ≤ MOST_LOADED
   pub fits : FitsUnits made.table made.graph
-  pub unplanted : All IsUnplantedNode made.graph
 
+-- the last mix is a unit that is one
 pub record IsComposed (s : State) : Type 0 where
   pub made : IsMade s.made
-  pub level : IsKnownLevel (length s.made.graph) s.level
+  pub level : IsKnownLevel (length s.made.graph) s.made.table s.level
+  pub mix : IfSome s.last_mix (λ unit. IsMix s.made.graph unit.0)
+
+-- what was made stays there: units, those that are mixes, and pictures
+pub record IsMore (old new : Made) : Type 0 where
+  pub units : length old.graph ≤ length new.graph
+  pub mixes : (unit : ℕ) → IsMix old.graph unit → IsMix new.graph unit
+  pub pictures : (source : ℕ) → HasPicture old.table source → HasPicture new.table source

@@ -27,8 +27,8 @@ use mlt_base::{Name, Pos, Profile, Span, Try};
 use mlt_tree::{Attached, Cause, Entry, FilterKind, FilterSpec, Group, Refusal, services as row};
 use std::alloc::Global;
 
-/// A value behind the `:` of a filter's word, as that of the filter's first property, if it has one.
-fn front_of(place: u32, first: Option<Name>, value: Option<&str>) -> Option<Front<'_>>
+/// A value behind the `:` of a word, as that of its service's first property, if it has one.
+pub(crate) fn front_of(place: u32, first: Option<Name>, value: Option<&str>) -> Option<Front<'_>>
     ensures { front_in result ≡ valued place first (option_copied value.entry) }
 {
     match first {
@@ -40,22 +40,21 @@ fn front_of(place: u32, first: Option<Name>, value: Option<&str>) -> Option<Fron
     }
 }
 
-/// A range whose last position is not before its first.
-fn ordered(place: u32, asked: Asked) -> Result<Asked, Refusal>
-    requires { IsFilter asked.spec × (asked.first < 2 ^ 31) × IfSome asked.last (λ last. last < 2 ^ 31) }
-    ensures value { Gives asked_view result (meaning.ordered place (asked_view asked)) }
-    ensures asked { IfOk result IsAsked }
+/// A last position that is given is not before the first.
+pub(crate) fn ordered(place: u32, first: u32, last: Option<u32>) -> Result<(), Refusal>
+    ensures value { result ≡ meaning.ordered place first last }
+    ensures range { IfOk result (λ _. IfSome last (λ last. first ≤ last)) }
 {
-    match asked.last {
-        None => Ok(asked),
+    match last {
+        None => Ok(()),
         Some(last) => {
-            if asked.first <= last {
-                Ok(asked)
+            if first <= last {
+                Ok(())
             } else {
                 Err(Refusal::at(
                     place,
                     Cause::BadRange {
-                        first: asked.first,
+                        first,
                         last,
                         length: 0,
                     },
@@ -130,7 +129,7 @@ impl Given<'_, '_, '_> {
 
     /// The filter of a kind, and where it acts.
     #[tactic(auto, unfolding(mlt_tree::specs::Attaching::asked_by))]
-    fn asked_by(
+    pub(crate) fn asked_by(
         &self,
         alloc: Global,
         profile: &Profile,
@@ -144,7 +143,8 @@ impl Given<'_, '_, '_> {
         let first = self.moment_or_first(&row::IN, profile)?;
         let last = self.moment(&row::OUT, profile)?;
         let spec = self.spec_of(alloc, kind, place)?;
-        Ok(ordered(place, Asked { spec, first, last })?)
+        ordered(place, first, last)?;
+        Ok(Asked { spec, first, last })
     }
 }
 

@@ -2,12 +2,12 @@
 
 ghost use Rattle.std.specs.Prelude.{◌≡◌, find};
 ghost use Rattle.std.specs.Option.{option_copied};
-ghost use Rattle.mlt_tree.specs.Unbuilt.{is_later_prop, is_picture, producer_built, props_built, is_picture_filter, filter_built, built, built_step};
+ghost use Rattle.mlt_tree.specs.Unbuilt.{is_later_prop, is_picture, producer_built, props_built, is_picture_filter, filter_built, is_picture_merge, merge_built, built, built_step};
 ghost use Rattle.mlt_tree.specs.Services.{producer_of, raw_of};
 ghost use Rattle.mlt_tree.specs.Refusing.{over};
 
-use crate::service::{called, filter_named, producer_of, raw_of};
-use mlt_tree::{Cause, FilterKind, Group, GroupKind, Producer, Prop, Refusal};
+use crate::service::{called, filter_named, merge_named, producer_of, raw_of};
+use mlt_tree::{Cause, FilterKind, Group, GroupKind, MergeKind, Producer, Prop, Refusal};
 
 /// Whether a property of the consumer is not built yet.
 fn is_later_prop(prop: &Prop) -> bool
@@ -107,6 +107,32 @@ fn filter_built(group: &Group) -> Result<(), Refusal>
     }
 }
 
+/// Whether a merge is one of pictures.
+fn is_picture_merge(kind: MergeKind) -> bool
+    ensures { result ≡ is_picture_merge kind }
+{
+    match kind {
+        MergeKind::Luma | MergeKind::Composite | MergeKind::Matte => true,
+        MergeKind::Mix | MergeKind::Sum => false,
+    }
+}
+
+/// A merge of pictures, or of nothing that is known.
+fn merge_built(group: &Group) -> Result<(), Refusal>
+    ensures { result ≡ merge_built group.now }
+{
+    match merge_named(called(group.arg.as_str()).id) {
+        None => Ok(()),
+        Some(row) => {
+            if is_picture_merge(row.kind) {
+                Ok(())
+            } else {
+                Err(Refusal::at(group.place, Cause::Unsupported))
+            }
+        }
+    }
+}
+
 /// Whether a group is built.
 #[tactic(auto, unfolding(mlt_tree::specs::Unbuilt::built))]
 fn built(group: &Group) -> Result<(), Refusal>
@@ -115,12 +141,23 @@ fn built(group: &Group) -> Result<(), Refusal>
     match group.kind {
         GroupKind::Producer => producer_built(group),
         GroupKind::Consumer => props_built(group),
-        GroupKind::Attach | GroupKind::AttachCut | GroupKind::AttachClip | GroupKind::AttachTrack =>
-            filter_built(group),
-        GroupKind::Filter
-        | GroupKind::Transition
+        GroupKind::Attach
+        | GroupKind::AttachCut
+        | GroupKind::AttachClip
+        | GroupKind::AttachTrack
+        | GroupKind::Filter => filter_built(group),
+        GroupKind::Transition | GroupKind::Mixer => merge_built(group),
+        GroupKind::Serialise | GroupKind::Generate => {
+            Err(Refusal::at(group.place, Cause::Unsupported))
+        }
+        GroupKind::Blank
+        | GroupKind::Group
+        | GroupKind::Join
         | GroupKind::Mix
-        | GroupKind::Mixer
+        | GroupKind::Remove
+        | GroupKind::Repeat
+        | GroupKind::Split
+        | GroupKind::Swap
         | GroupKind::Track
         | GroupKind::HideVideo
         | GroupKind::AudioTrack
@@ -128,15 +165,6 @@ fn built(group: &Group) -> Result<(), Refusal>
         | GroupKind::VideoTrack
         | GroupKind::HideTrack
         | GroupKind::NullTrack
-        | GroupKind::Serialise
-        | GroupKind::Generate => Err(Refusal::at(group.place, Cause::Unsupported)),
-        GroupKind::Blank
-        | GroupKind::Group
-        | GroupKind::Join
-        | GroupKind::Remove
-        | GroupKind::Repeat
-        | GroupKind::Split
-        | GroupKind::Swap
         | GroupKind::Profile
         | GroupKind::Query
         | GroupKind::Version

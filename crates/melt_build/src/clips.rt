@@ -14,7 +14,7 @@ ghost use Rattle.melt_build.specs.Clips.{origin_view, wanted_view, asked_view, p
 ghost use Rattle.melt_build.specs.Given.{props_in};
 ghost use Rattle.melt_build.specs.Loads.{Tells, Goes, CountsLoads};
 ghost use Rattle.melt_build.specs.Service.{named_view};
-ghost use Rattle.melt_build.specs.State.{IsComposed, IsMade, made_view, state_view, cut_view};
+ghost use Rattle.melt_build.specs.State.{IsComposed, IsMade, IsMore, made_view, state_view, cut_view};
 
 use crate::fault::BuildFault;
 use crate::object::Object;
@@ -124,7 +124,7 @@ impl Made {
         ensures value { IfOk result (λ product. product_view self.new product ≡
             meaning.source_made (measures_of profile.now) (made_view self.old) (source_of source) (wanted_view asked)) }
         ensures made { OnOk result (IsMade self.new) }
-        ensures more { length self.old.graph ≤ length self.new.graph }
+        ensures more { OnOk result (IsMore self.old self.new) }
         ensures there { IfOk result (λ product. product.unit.0 < length self.new.graph) }
         ensures frames { IfOk result (λ product. (1 ≤ product.frames) × (product.frames < 2 ^ 31)) }
     {
@@ -150,7 +150,7 @@ impl Made {
             Tells files (composing.product_of files s group (origin_view origin.entry) (wanted_view asked)) (H.state host.old) →
             Goes (product_view self.new) result (composing.product_of files s group (origin_view origin.entry) (wanted_view asked)) (H.state host.old) (H.state host.new) }
         ensures made { OnOk result (IsMade self.new) }
-        ensures more { length self.old.graph ≤ length self.new.graph }
+        ensures more { OnOk result (IsMore self.old self.new) }
         ensures there { IfOk result (λ product. product.unit.0 < length self.new.graph) }
         ensures frames { IfOk result (λ product. (1 ≤ product.frames) × (product.frames < 2 ^ 31)) }
         ensures counts { CountsLoads result (H.state host.old) (H.state host.new) }

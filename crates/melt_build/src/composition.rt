@@ -11,13 +11,12 @@ ghost use Rattle.mlt_tree.specs.Sealing.{framed as framed_of};
 ghost use Rattle.mlt_base.specs.ProfileView.{measures_of};
 ghost use Rattle.mlt_host.specs.Host.{OnlyLoads};
 ghost use Rattle.mlt_tree.specs.declared.group.GroupKind.TheVariants as kind;
-ghost use Rattle.melt_build.specs.Failing.{lifted as lifted_of};
 ghost use Rattle.melt_build.specs.Loads.{Tells, Goes, CountsLoads};
 ghost use Rattle.melt_build.specs.Reads.{ReadGives};
 ghost use Rattle.melt_build.specs.State.{IsComposed, state_view};
 
 use crate::built::all_built;
-use crate::fault::BuildFault;
+use crate::fault::{BuildFault, lifted};
 use crate::object::Object;
 use crate::props::Given;
 use crate::state::{Made, State};
@@ -139,19 +138,22 @@ impl<'a> State<'a> {
         Ok(())
     }
 
-    /// What a group does to the composition that is no producer.
+    /// What a group does to the composition that can name no file.
     #[tactic(auto, unfolding(mlt_tree::specs::Composing::effect))]
     fn change(&mut self, alloc: Global, group: &'a Group) -> Result<(), Try<Refusal>>
         requires composed { IsComposed self.old }
-        requires other { group.now.kind ≢ kind.Producer }
+        requires producer { group.now.kind ≢ kind.Producer }
+        requires transition { group.now.kind ≢ kind.Transition }
+        requires mixer { group.now.kind ≢ kind.Mixer }
         ensures value { (files : Files) → ReadGives (λ _. state_view self.new) result (effect_of files (state_view self.old) group.now) }
         ensures composed { OnOk result (IsComposed self.new) }
     {
         match group.kind {
-            GroupKind::Producer => unreachable!(),
+            GroupKind::Producer | GroupKind::Transition | GroupKind::Mixer => unreachable!(),
             GroupKind::Blank => self.blank(group),
             GroupKind::Group => self.inherit(alloc, group),
             GroupKind::Join => self.join(group),
+            GroupKind::Mix => self.mix(group),
             GroupKind::Remove => self.remove(group),
             GroupKind::Repeat => self.repeat(group),
             GroupKind::Split => self.split(group),
@@ -160,19 +162,11 @@ impl<'a> State<'a> {
             GroupKind::Attach | GroupKind::AttachCut => self.attach(alloc, group),
             GroupKind::AttachClip => self.attach_clip(alloc, group),
             GroupKind::AttachTrack => self.attach_track(alloc, group),
-            GroupKind::Filter
-            | GroupKind::Transition
-            | GroupKind::Mix
-            | GroupKind::Mixer
-            | GroupKind::Track
-            | GroupKind::HideVideo
-            | GroupKind::AudioTrack
-            | GroupKind::HideAudio
-            | GroupKind::VideoTrack
-            | GroupKind::HideTrack
-            | GroupKind::NullTrack => {
-                Err(Try::Fault(Refusal::at(group.place, Cause::Unsupported)))
-            }
+            GroupKind::Filter => self.plant_filter(alloc, group),
+            GroupKind::Track => self.begin_track(group, false, false),
+            GroupKind::HideVideo | GroupKind::AudioTrack => self.begin_track(group, true, false),
+            GroupKind::HideAudio | GroupKind::VideoTrack => self.begin_track(group, false, true),
+            GroupKind::HideTrack | GroupKind::NullTrack => self.begin_track(group, true, true),
             GroupKind::Profile
             | GroupKind::Serialise
             | GroupKind::Query
@@ -205,6 +199,10 @@ impl<'a> State<'a> {
     {
         if group.kind == GroupKind::Producer {
             self.produce(alloc, group, host)
+        } else if group.kind == GroupKind::Transition {
+            self.transition(alloc, group, host)
+        } else if group.kind == GroupKind::Mixer {
+            self.mixer(alloc, group, host)
         } else {
             lifted(self.change(alloc, group))
         }
@@ -228,16 +226,6 @@ impl<'a> State<'a> {
             self.effect(alloc, group, host)?;
         }
         Ok(())
-    }
-}
-
-/// The answer of a step that looks up no file.
-fn lifted<T>(done: Result<T, Try<Refusal>>) -> Result<T, BuildFault>
-    ensures { result ≡ lifted_of done }
-{
-    match done {
-        Ok(answer) => Ok(answer),
-        Err(refused) => Err(BuildFault::from(refused)),
     }
 }
 

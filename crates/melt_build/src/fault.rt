@@ -1,7 +1,7 @@
 //! Why groups make no show.
 
 ghost use Rattle.std.specs.Prelude.{◌≡◌};
-ghost use Rattle.melt_build.specs.Failing.{fault_of};
+ghost use Rattle.melt_build.specs.Failing.{fault_of, lifted as lifted_of};
 ghost use Rattle.melt_build.specs.declared.fault.BuildFault.TheVariants.{Refused as RefusedOf, Memory as MemoryOf};
 
 use mlt_base::Try;
@@ -43,5 +43,15 @@ impl From<Try<Refusal>> for BuildFault {
             Try::Fault(refusal) => BuildFault::Refused(refusal),
             Try::Memory => BuildFault::Memory,
         }
+    }
+}
+
+/// The answer of a step that looks up no file.
+pub(crate) fn lifted<T>(done: Result<T, Try<Refusal>>) -> Result<T, BuildFault>
+    ensures { result ≡ lifted_of done }
+{
+    match done {
+        Ok(answer) => Ok(answer),
+        Err(refused) => Err(BuildFault::from(refused)),
     }
 }

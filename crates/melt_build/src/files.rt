@@ -1,20 +1,23 @@
-//! The files that producers name, and the sources that are made of them.
+//! The files that words name, and the sources that are made of them.
 
-ghost use Rattle.std.specs.Prelude.{◌≡◌, ◌≤◌, ◌<◌, ◌-◌, ◌^◌, length, IfOk, OnOk};
+ghost use Rattle.std.specs.Prelude.{◌≡◌, ◌≤◌, ◌<◌, ◌-◌, ◌^◌, length, All, IfOk, OnOk};
+ghost use Rattle.std.specs.Option.{option_copied};
 ghost use Rattle.mlt_base.specs.ProfileView.{measures_of};
 ghost use Rattle.mlt_base.specs.Ppm.{ppm};
 ghost use Rattle.mlt_base.specs.Try.{TryGives};
 ghost use Rattle.mlt_host.specs.Host.{OnlyLoads};
-ghost use Rattle.mlt_tree.specs.Loaded.{load_limit, file_within, picture_in, picture_made as picture_made_of};
+ghost use Rattle.mlt_tree.specs.Loaded.{load_limit, file_within, picture_in, picture_loaded as picture_loaded_of, picture_made as picture_made_of};
 ghost use Rattle.mlt_tree.specs.Loading.{Files};
+ghost use Rattle.mlt_tree.specs.Merging.{map_made as map_made_of};
+ghost use Rattle.mlt_tree.specs.Sources.{HasPicture, numbered};
 ghost use Rattle.melt_build.specs.Clips.{wanted_view, product_view};
 ghost use Rattle.melt_build.specs.Loads.{Tells, Goes, CountsLoads};
-ghost use Rattle.melt_build.specs.State.{IsMade, made_view};
+ghost use Rattle.melt_build.specs.State.{IsMade, IsMore, made_view};
 
 use crate::fault::BuildFault;
 use crate::state::Made;
 use crate::wanted::{Product, Wanted};
-use mlt_base::{Profile, Still, Try};
+use mlt_base::{Profile, SourceNo, Still, Try};
 use mlt_host::{Host, LoadFault};
 use mlt_source::Source;
 use mlt_tree::limits::{MOST_LOADED, MOST_OF_FILE};
@@ -68,6 +71,29 @@ fn picture_in(alloc: Global, place: u32, bytes: &[u8]) -> Result<Still, Try<Refu
 }
 
 impl Made {
+    /// The picture of a file, for the word at a place; its bytes are counted.
+    fn picture_loaded<H: Host>(
+        &mut self,
+        alloc: Global,
+        place: u32,
+        name: &str,
+        host: &mut H,
+    ) -> Result<Still, BuildFault>
+        requires { IsMade self.old }
+        ensures goes { (files : Files) → Tells files (picture_loaded_of files (made_view self.old) place name.now) (H.state host.old) →
+            Goes (λ picture. (made_view self.new, picture)) result (picture_loaded_of files (made_view self.old) place name.now) (H.state host.old) (H.state host.new) }
+        ensures made { OnOk result (IsMade self.new) }
+        ensures graph { OnOk result (self.new.graph ≡ self.old.graph) }
+        ensures table { OnOk result (self.new.table ≡ self.old.table) }
+        ensures counts { CountsLoads result (H.state host.old) (H.state host.new) }
+        ensures rest { OnlyLoads (H.state host.old) (H.state host.new) }
+    {
+        let bytes = load(alloc, place, name, load_limit(self.loaded), host)?;
+        let picture = picture_in(alloc, place, bytes.as_slice())?;
+        self.loaded += bytes.len() as u64;
+        Ok(picture)
+    }
+
     /// The source of a picture's file, for the word at a place.
     pub(crate) fn picture_made<H: Host>(
         &mut self,
@@ -82,15 +108,39 @@ impl Made {
         ensures goes { (files : Files) → Tells files (picture_made_of files (measures_of profile.now) (made_view self.old) place name.now (wanted_view asked)) (H.state host.old) →
             Goes (product_view self.new) result (picture_made_of files (measures_of profile.now) (made_view self.old) place name.now (wanted_view asked)) (H.state host.old) (H.state host.new) }
         ensures made { OnOk result (IsMade self.new) }
-        ensures more { length self.old.graph ≤ length self.new.graph }
+        ensures more { OnOk result (IsMore self.old self.new) }
         ensures there { IfOk result (λ product. product.unit.0 < length self.new.graph) }
         ensures frames { IfOk result (λ product. (1 ≤ product.frames) × (product.frames < 2 ^ 31)) }
         ensures counts { CountsLoads result (H.state host.old) (H.state host.new) }
         ensures rest { OnlyLoads (H.state host.old) (H.state host.new) }
     {
-        let bytes = load(alloc, place, name, load_limit(self.loaded), host)?;
-        let picture = picture_in(alloc, place, bytes.as_slice())?;
-        self.loaded += bytes.len() as u64;
+        let picture = self.picture_loaded(alloc, place, name, host)?;
         Ok(self.source_made(profile, Source::Still(picture), asked)?)
+    }
+
+    /// The source of a map, for the word at a place, where a file is named.
+    pub(crate) fn map_made<H: Host>(
+        &mut self,
+        alloc: Global,
+        place: u32,
+        name: Option<&str>,
+        host: &mut H,
+    ) -> Result<Option<SourceNo>, BuildFault>
+        requires { IsMade self.old }
+        ensures goes { (files : Files) → Tells files (map_made_of files (made_view self.old) place (option_copied name.entry)) (H.state host.old) →
+            Goes (λ map. (made_view self.new, map)) result (map_made_of files (made_view self.old) place (option_copied name.entry)) (H.state host.old) (H.state host.new) }
+        ensures made { OnOk result (IsMade self.new) }
+        ensures more { OnOk result (IsMore self.old self.new) }
+        ensures there { IfOk result (λ map. All (HasPicture self.new.table) (numbered map)) }
+        ensures counts { CountsLoads result (H.state host.old) (H.state host.new) }
+        ensures rest { OnlyLoads (H.state host.old) (H.state host.new) }
+    {
+        match name {
+            None => Ok(None),
+            Some(name) => {
+                let picture = self.picture_loaded(alloc, place, name, host)?;
+                Ok(Some(self.table.add_still(picture)?))
+            }
+        }
     }
 }

@@ -2,9 +2,9 @@
 //!
 //! [`build`] gives exactly the show of `mlt_tree`'s `specs/Sealing`, or its refusal with the place. Each
 //! step is one small function with the name of its definition: `built` refuses what is not built yet,
-//! `composition` takes the profile and then the groups in word order, `state`, `track`, `wanted`, `clips` and
-//! `attach` do one group, `files` loads what a word names, and `seal` tests the whole at the end. `object`
-//! keeps the properties of a group by name, and `props` reads their values.
+//! `composition` takes the profile and then the groups in word order, `state`, `track`, `wanted`, `clips`,
+//! `attach`, `merges` and `plant` do one group, `files` loads what a word names, and `seal` tests the whole at
+//! the end. `object` keeps the properties of a group by name, and `props` reads their values.
 //!
 //! Below stand `mlt_graph`, which the composition grows in, and `melt_words`, whose groups it reads; above,
 //! the top call. Start reading at [`show`], then at `composition`.
@@ -17,7 +17,9 @@ mod composition;
 mod consumer;
 pub mod fault;
 mod files;
+mod merges;
 mod object;
+mod plant;
 mod props;
 mod refused;
 mod seal;

@@ -6,15 +6,19 @@ ghost use Rattle.mlt_base.specs.Name.{is_spelled};
 ghost use Rattle.mlt_base.specs.ProfileView.{measures_of};
 ghost use Rattle.mlt_base.specs.Try.{TryGives};
 ghost use Rattle.mlt_tree.specs.Props as meaning;
-ghost use Rattle.mlt_tree.specs.Props.{later as later_of, last_named, counted as counted_of, distant as distant_of, timed as timed_of, within as within_of, distance_within, chosen as chosen_of, keyed as keyed_of, channel_of, channels_of, lettered as lettered_of};
+ghost use Rattle.mlt_tree.specs.Props.{later as later_of, last_named, counted as counted_of, distant as distant_of, timed as timed_of, within as within_of, distance_within, chosen as chosen_of, keyed as keyed_of, channel_of, channels_of, lettered as lettered_of, shared as shared_of, placed as placed_of};
+ghost use Rattle.mlt_base.specs.GeometryView.{IsPlacement};
 ghost use Rattle.melt_build.specs.Given.{front_in, behind_front, props_in};
 ghost use Rattle.melt_build.specs.Object.{text_in};
 ghost use Rattle.melt_build.specs.Reads.{at_place};
 
 use crate::object::Object;
 use crate::refused;
-use mlt_base::{Animation, Name, Profile, Try, read_time, read_whole};
-use mlt_tree::{Animated, Cause, Choice, Count, Distance, Letters, Moment, Number, Prop, Refusal};
+use mlt_base::{Animation, Geometry, Name, Profile, Try, read_decimal, read_time, read_whole};
+use mlt_tree::{
+    Animated, Area, Cause, Choice, Count, Distance, FileName, Letters, Moment, Number, Prop,
+    Refusal, Share,
+};
 use std::alloc::Global;
 
 /// This property where it has the name, else the one found before.
@@ -174,6 +178,32 @@ fn lettered(place: u32, text: &str) -> Result<[u8; 4], Refusal>
     match channels_of(letters) {
         Some(order) => Ok(order),
         None => Err(Refusal::at(place, Cause::BadValue)),
+    }
+}
+
+/// A text as a number from 0 to 1, in 65536ths.
+#[tactic(auto, unfolding(mlt_tree::specs::Props::shared))]
+fn shared(text: &str) -> Result<u32, Cause>
+    ensures value { (place : ℕ) → at_place place result ≡ shared_of place text.now }
+    ensures range { IfOk result (λ q. q ≤ 65536) }
+{
+    let q = read_decimal(text)?.0;
+    if q <= 65536 {
+        Ok(q)
+    } else {
+        Err(Cause::BadValue)
+    }
+}
+
+/// A text as a place and a size in a frame of this profile.
+#[tactic(auto, unfolding(mlt_tree::specs::Props::placed))]
+fn placed(profile: &Profile, text: &str) -> Result<Geometry, Cause>
+    ensures value { (place : ℕ) → at_place place result ≡ placed_of (measures_of profile.now) place text.now }
+    ensures range { IfOk result IsPlacement }
+{
+    match Geometry::read(text, profile) {
+        Some(geometry) => Ok(geometry),
+        None => Err(Cause::BadValue),
     }
 }
 
@@ -359,5 +389,40 @@ impl Given<'_, '_, '_> {
             return Ok(0);
         };
         self.at_word(name, timed(profile, text))
+    }
+
+    /// The number of a row from 0 to 1, in 65536ths, or 0.
+    pub(crate) fn share(&self, row: &Share) -> Result<u32, Refusal>
+        requires { IsTrue (is_spelled row.now.name) }
+        ensures value { result ≡ meaning.share row.now (props_in self.now) }
+        ensures range { IfOk result (λ q. q ≤ 65536) }
+    {
+        let name = row.name.as_str();
+        let Some(text) = self.text(name) else {
+            return Ok(0);
+        };
+        self.at_word(name, shared(text))
+    }
+
+    /// The place and the size of a row, in a frame of this profile, or its default.
+    pub(crate) fn area(&self, row: &Area, profile: &Profile) -> Result<Geometry, Refusal>
+        requires name { IsTrue (is_spelled row.now.name) }
+        requires default { IsTrue (is_spelled row.now.default) }
+        ensures value { result ≡ meaning.area row.now (measures_of profile.now) (props_in self.now) }
+        ensures range { IfOk result IsPlacement }
+    {
+        let name = row.name.as_str();
+        match self.text(name) {
+            None => refused::at_place(0, placed(profile, row.default.as_str())),
+            Some(text) => self.at_word(name, placed(profile, text)),
+        }
+    }
+
+    /// The name of a row's file, where there is one.
+    pub(crate) fn file_name(&self, row: &FileName) -> Option<&str>
+        requires { IsTrue (is_spelled row.now.name) }
+        ensures { option_copied result ≡ meaning.file_name row.now (props_in self.now) }
+    {
+        self.text(row.name.as_str())
     }
 }

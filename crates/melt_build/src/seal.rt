@@ -1,19 +1,19 @@
 //! The end of a composition: whether there is something to play, and not too much of it.
 
-ghost use Rattle.std.specs.Prelude.{◌≡◌, ◌≤◌, ◌<◌, ◌+◌, ◌-◌, ◌^◌, ◌++◌, [], ◌∷◌, length, All, IfOk, None, unwrap_or};
+ghost use Rattle.std.specs.Prelude.{◌≡◌, ◌≤◌, ◌<◌, ◌+◌, ◌-◌, ◌^◌, ◌++◌, [], ◌∷◌, length, get_or, All, IfOk, None, unwrap_or};
 ghost use Rattle.std.specs.Option.{option_map};
 ghost use Rattle.mlt_base.specs.declared.limits.TheConstants.{MOST_WRITTEN};
 ghost use Rattle.mlt_base.specs.ProfileView.{measures_of};
 ghost use Rattle.mlt_base.specs.Try.{Gives, TryGives};
 ghost use Rattle.mlt_tree.specs.Composition.{State as StateOf};
-ghost use Rattle.mlt_tree.specs.Sealing.{bytes_of, few_frames as few_frames_of, few_bytes as few_bytes_of, ranged as ranged_of, sealable, show_of_tree as show_of_tree_of, seal as seal_of, settings_of, default_consumer as default_of};
+ghost use Rattle.mlt_tree.specs.Sealing.{bytes_of, few_frames as few_frames_of, few_bytes as few_bytes_of, ranged as ranged_of, show_of_tree as show_of_tree_of, seal as seal_of, settings_of, default_consumer as default_of};
 ghost use Rattle.mlt_tree.specs.Sources.{Fits};
 ghost use Rattle.mlt_tree.specs.Tree.{len};
 ghost use Rattle.mlt_tree.specs.Unbuilt.{IsPlayed};
-ghost use Rattle.mlt_tree.specs.Units.{IsEntryBelow, drafts_of, tractor_of};
+ghost use Rattle.mlt_tree.specs.Units.{IsEntryBelow, drafts_of, tractor_of, level_misplaced};
 ghost use Rattle.mlt_graph.specs.Sealed.{tree};
 ghost use Rattle.mlt_graph.specs.Show.{output_view, meant};
-ghost use Rattle.melt_build.specs.Built.{refusal_of};
+ghost use Rattle.melt_build.specs.Built.{checked, refusal_of};
 ghost use Rattle.melt_build.specs.State.{IsComposed, consumer_view, cut_view, state_view};
 
 use crate::clips::cut_of;
@@ -122,11 +122,29 @@ fn settings_of(alloc: Global, c: &Consumer<'_>, range: Cut) -> Result<Output, Al
     })
 }
 
-/// The refusal of a graph, at the end of so many words.
-fn graph_refusal(count: u32, fault: GraphFault) -> Try<Refusal>
-    ensures { result ≡ refusal_of count fault }
+/// The place of the group of a plant, by its number.
+fn place_of(places: &[u32], plant: u32) -> u32
+    ensures { result ≡ get_or places.now plant 0 }
+{
+    match places.get(plant as usize) {
+        Some(place) => *place,
+        None => 0,
+    }
+}
+
+/// The refusal of a graph, at the end of so many words, or at the place of a plant's group.
+fn graph_refusal(count: u32, places: &[u32], fault: GraphFault) -> Try<Refusal>
+    ensures { result ≡ refusal_of count places.now fault }
 {
     match fault {
+        GraphFault::BadTrack { plant, no, tracks } => Try::Fault(Refusal::at(
+            place_of(places, plant),
+            Cause::BadTrack { no, tracks },
+        )),
+        GraphFault::SameTrack { plant, no } => Try::Fault(Refusal::at(
+            place_of(places, plant),
+            Cause::SameTrack { no },
+        )),
         GraphFault::NoProducer => Try::Fault(Refusal::at(count, Cause::NoProducer)),
         GraphFault::TooDeep { depth } => Try::Fault(Refusal::at(count, Cause::TooDeep { depth })),
         GraphFault::TooMany { limit } => Try::Fault(Refusal::at(count, Cause::TooMany { limit })),
@@ -134,20 +152,25 @@ fn graph_refusal(count: u32, fault: GraphFault) -> Try<Refusal>
     }
 }
 
-/// The graph with a tractor of the tracks as its top, sealed.
+/// The graph with a tractor of the tracks as its top, sealed; the places are those of the plants' groups.
 #[tactic(auto, unfolding(mlt_tree::specs::Sealing::sealable))]
-fn sealed(count: u32, mut graph: Graph, level: Level) -> Result<Sealed, Try<Refusal>>
+fn sealed(
+    count: u32,
+    places: &[u32],
+    mut graph: Graph,
+    level: Level,
+) -> Result<Sealed, Try<Refusal>>
     requires { All (λ draft. All (IsEntryBelow (length graph)) draft.entries) (drafts_of level) }
-    ensures value { TryGives (λ _. tt) result (sealable count (graph ++ tractor_of level ∷ []) (length graph)) }
+    ensures value { TryGives (λ _. tt) result (checked count places.now (length (drafts_of level)) (level_misplaced level) (graph ++ tractor_of level ∷ []) (length graph)) }
     ensures sealed { IfOk result (λ sealed. sealed ≡ record { units = graph ++ tractor_of level ∷ []; top = length graph }) }
 {
     let top = match graph.add_tractor(level) {
         Ok(top) => top,
-        Err(fault) => return Err(graph_refusal(count, fault)),
+        Err(fault) => return Err(graph_refusal(count, places, fault)),
     };
     match graph.seal(top) {
         Ok(sealed) => Ok(sealed),
-        Err(fault) => Err(graph_refusal(count, fault)),
+        Err(fault) => Err(graph_refusal(count, places, fault)),
     }
 }
 
@@ -191,7 +214,7 @@ pub(crate) fn seal(
         profile,
         made,
         level,
-        plant_places: _,
+        plant_places,
         inherited,
         last_mix: _,
         consumer,
@@ -203,7 +226,7 @@ pub(crate) fn seal(
         words: _,
     } = made;
     inherited.end();
-    let sealed = sealed(count, graph, level)?;
+    let sealed = sealed(count, plant_places.as_slice(), graph, level)?;
     Ok((
         show_of_tree(alloc, count, profile, consumer, sealed)?,
         table,

@@ -1,14 +1,14 @@
-//! The producer, the filter or the consumer that a word names, and its argument.
+//! The producer, the filter, the merge or the consumer that a word names, and its argument.
 
 ghost use Rattle.std.specs.Prelude.{◌≡◌, nat_eq, find};
 ghost use Rattle.std.specs.Option.{option_map, option_copied};
 ghost use Rattle.mlt_base.specs.SplitOnce.{split_once};
-ghost use Rattle.mlt_tree.specs.Services.{is_id, ends_in, producer_named, producer_of_file, stands_alone, with_arg, producer_of, raw_of, colour_name, output_name, by_id, raw_by_id, called, is_filter, filter_named};
+ghost use Rattle.mlt_tree.specs.Services.{is_id, ends_in, producer_named, producer_of_file, stands_alone, with_arg, producer_of, raw_of, colour_name, output_name, by_id, raw_by_id, called, is_filter, filter_named, is_merge, merge_named};
 ghost use Rattle.melt_build.specs.Service.{named_view, called_view};
 
 use mlt_base::Name;
 use mlt_tree::Producer;
-use mlt_tree::services::{FILTERS, FilterRow, PRODUCERS, ProducerRow, RAW};
+use mlt_tree::services::{FILTERS, FilterRow, MERGES, MergeRow, PRODUCERS, ProducerRow, RAW};
 
 /// A producer and its argument.
 #[derive(Clone, Copy)]
@@ -199,4 +199,23 @@ pub(crate) fn filter_named(id: &str) -> Option<FilterRow>
     ensures { result ≡ filter_named id.now }
 {
     row_of_filter(&FILTERS, id)
+}
+
+/// The row of a merge's id.
+fn row_of_merge(rows: &[MergeRow], id: &str) -> Option<MergeRow>
+    ensures { result ≡ find (is_merge id.now) rows.now }
+{
+    for row in rows {
+        if row.name.as_bytes() == id.as_bytes() {
+            return Some(*row);
+        }
+    }
+    None
+}
+
+/// The merge of an id.
+pub(crate) fn merge_named(id: &str) -> Option<MergeRow>
+    ensures { result ≡ merge_named id.now }
+{
+    row_of_merge(&MERGES, id)
 }

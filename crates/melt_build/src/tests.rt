@@ -233,11 +233,85 @@ fn refuses_files_that_are_no_picture(rt: HostRuntime) -> Result<(), Fail> {
 #[test]
 fn names_the_word_whose_file_is_missing(rt: HostRuntime) -> Result<(), Fail> {
     let alloc = rt.alloc();
-    let list = read(alloc, "-profile 1x1@25/1 colour:red missing.ppm -join 5")?;
-    let mut host = CalmHost::new(alloc);
-    match build(alloc, &list, &mut host) {
-        Ok(_) => return Err(Fail::new("built")),
-        Err(fault) => assert_eq!(rt; fault, BuildFault::SourceFault(3)),
+    // A picture that is played, and one that is a map.
+    let lines: [&str; 2] = [
+        "-profile 1x1@25/1 colour:red missing.ppm -join 5",
+        "-profile 1x1@25/1 colour:red -transition luma:missing.ppm -join 5",
+    ];
+    for line in lines {
+        let list = read(alloc, line)?;
+        let mut host = CalmHost::new(alloc);
+        match build(alloc, &list, &mut host) {
+            Ok(_) => return Err(Fail::new("built")),
+            Err(fault) => assert_eq!(rt; fault, BuildFault::SourceFault(3), "{line}"),
+        }
+    }
+    Ok(())
+}
+
+#[test]
+fn builds_tracks_plants_and_a_mix(rt: HostRuntime) -> Result<(), Fail> {
+    let alloc = rt.alloc();
+    // The words behind the profile, and how many frames are played.
+    let rows: [(&str, u32); 4] = [
+        ("colour:red out=2 colour:blue out=2 -mix 2 -mixer luma", 4),
+        (
+            "colour:red out=2 -hide-video colour:blue out=4 -track -filter mirror",
+            5,
+        ),
+        (
+            "colour:red out=2 -track colour:blue out=1 -transition luma:p.ppm softness=0.5 out=1",
+            3,
+        ),
+        (
+            "colour:red out=2 -track colour:blue out=1 -transition composite:0/0:1x1 -filter greyscale track=0",
+            3,
+        ),
+    ];
+    for (words, length) in rows {
+        let line = format!(in alloc; "-profile 1x1@25/1 {words}")?;
+        let list = read(alloc, line.as_str())?;
+        let mut host = host_with_files(alloc)?;
+        match build(alloc, &list, &mut host) {
+            Ok((show, _)) => assert_eq!(rt; show.sealed.length(), length, "{words}"),
+            Err(_) => return Err(Fail::new("not built")),
+        }
+    }
+    Ok(())
+}
+
+#[test]
+fn refuses_what_is_planted_wrongly(rt: HostRuntime) -> Result<(), Fail> {
+    let alloc = rt.alloc();
+    // The words behind the profile and a colour, and why the word at place 3 is refused.
+    let rows: [(&str, Cause); 7] = [
+        (
+            "-transition luma a_track=0 b_track=1",
+            Cause::BadTrack { no: 1, tracks: 1 },
+        ),
+        ("-transition luma", Cause::SameTrack { no: 0 }),
+        (
+            "-filter mirror track=2",
+            Cause::BadTrack { no: 2, tracks: 1 },
+        ),
+        ("-mixer luma", Cause::NoMix),
+        ("-mix 1", Cause::TooFew { asked: 2, there: 1 }),
+        ("-transition luma:no", Cause::BadPicture(PpmFault::NotP6)),
+        ("-transition sum", Cause::Unsupported),
+    ];
+    for (words, cause) in rows {
+        let line = format!(in alloc; "-profile 1x1@25/1 colour:red {words}")?;
+        let list = read(alloc, line.as_str())?;
+        let mut host = host_with_files(alloc)?;
+        let wanted = BuildFault::Refused(mlt_tree::Refusal {
+            word: 3,
+            inner: None,
+            cause,
+        });
+        match build(alloc, &list, &mut host) {
+            Ok(_) => return Err(Fail::new("built")),
+            Err(fault) => assert_eq!(rt; fault, wanted, "{words}"),
+        }
     }
     Ok(())
 }

@@ -1,9 +1,12 @@
-//! What options do to the entries of the track.
+//! What options do to the entries of the track, and tracks that begin.
 
-ghost use Rattle.std.specs.Prelude.{◌≡◌, ◌≤◌, OnOk};
+ghost use Rattle.std.specs.Prelude.{◌≡◌, ◌≤◌, IfSome, OnOk};
+ghost use Rattle.std.specs.Option.{option_map};
 ghost use Rattle.mlt_base.specs.Try.{TryGives};
 ghost use Rattle.mlt_tree.specs.Composition.{blank as blank_of, remove as remove_of, repeat as repeat_of, split as split_of, split_at_frame as split_at_frame_of, swap as swap_of, join as join_of, joined as joined_of};
+ghost use Rattle.mlt_tree.specs.Planting.{mix_kept as mix_kept_of, begin_track as begin_track_of, mixed as mixed_of, mix as mix_of};
 ghost use Rattle.mlt_tree.specs.Refusing.{refusal_at as refusal_of};
+ghost use Rattle.mlt_tree.specs.Units.{IsMix};
 ghost use Rattle.mlt_tree.specs.declared.refusal.Cause.{Cause};
 ghost use Rattle.melt_build.specs.State.{IsComposed, state_view};
 ghost use Rattle.melt_build.specs.Track.{IsLastIndex};
@@ -11,9 +14,9 @@ ghost use Rattle.melt_build.specs.Track.{IsLastIndex};
 use crate::props::{counted, timed};
 use crate::refused::{at_group, at_place, at_word, edited};
 use crate::state::State;
-use mlt_base::limits::MOST_ENTRIES;
-use mlt_base::{Try, read_whole};
-use mlt_tree::{Cause, Group, Refusal};
+use mlt_base::limits::{MOST_ENTRIES, MOST_FRAMES};
+use mlt_base::{Try, UnitId, read_whole};
+use mlt_tree::{Cause, Group, Hide, Refusal};
 
 impl State<'_> {
     /// A gap.
@@ -119,6 +122,63 @@ impl State<'_> {
     {
         let n = at_place(group.place, counted(1, MOST_ENTRIES, group.arg.as_str()))?;
         self.joined(group, n)
+    }
+
+    /// The last two entries, which overlap by n frames or by as many as the shorter one has.
+    fn mixed(&mut self, group: &Group, n: u32) -> Result<(), Try<Refusal>>
+        requires composed { IsComposed self.old }
+        requires some { 1 ≤ n }
+        ensures value { TryGives (λ _. state_view self.new) result (mixed_of (state_view self.old) group.now n) }
+        ensures composed { OnOk result (IsComposed self.new) }
+    {
+        let unit = self.made.graph.next_id();
+        let list = self.level.last();
+        let at = list.count().saturating_sub(2);
+        let parts = edited(group.place, list.mix(at, n, unit))?;
+        self.made.graph.add_mix(parts)?;
+        self.last_mix = Some(unit);
+        Ok(())
+    }
+
+    /// Makes the last two entries overlap.
+    #[tactic(auto, unfolding(mlt_tree::specs::Planting::mix))]
+    pub(crate) fn mix(&mut self, group: &Group) -> Result<(), Try<Refusal>>
+        requires { IsComposed self.old }
+        ensures value { TryGives (λ _. state_view self.new) result (mix_of (state_view self.old) group.now) }
+        ensures composed { OnOk result (IsComposed self.new) }
+    {
+        let n = at_place(group.place, counted(1, MOST_FRAMES, group.arg.as_str()))?;
+        self.mixed(group, n)
+    }
+
+    /// The last mix, where the track has no entry, so that it stays when a track begins.
+    fn mix_kept(&self) -> Option<UnitId>
+        requires { IsComposed self.now }
+        ensures value { option_map (λ unit. unit.0) result ≡ mix_kept_of self.now.level.current.entries (option_map (λ unit. unit.0) self.now.last_mix) }
+        ensures mix { IfSome result (λ unit. IsMix self.now.made.graph unit.0) }
+    {
+        if self.level.last_list().count() == 0 {
+            self.last_mix
+        } else {
+            None
+        }
+    }
+
+    /// Begins a track that gives no picture, or no sound.
+    pub(crate) fn begin_track(
+        &mut self,
+        group: &Group,
+        video: bool,
+        audio: bool,
+    ) -> Result<(), Try<Refusal>>
+        requires { IsComposed self.old }
+        ensures value { TryGives (λ _. state_view self.new) result (begin_track_of video audio (state_view self.old) group.now) }
+        ensures composed { OnOk result (IsComposed self.new) }
+    {
+        let mix = self.mix_kept();
+        edited(group.place, self.level.new_track(Hide { video, audio }))?;
+        self.last_mix = mix;
+        Ok(())
     }
 }
 

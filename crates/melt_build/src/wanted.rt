@@ -1,4 +1,4 @@
-//! What the words of producers and filters ask for, and what they have made.
+//! What the words of producers, filters and merges ask for, and what they have made.
 
 ghost use Rattle.std.specs.Prelude.{ℕ, ◌≤◌, ◌<◌, ◌^◌, IfSome};
 ghost use Rattle.std.proofs.Props.{props};
@@ -43,6 +43,16 @@ pub(crate) struct Product {
 #[derive(Drop)]
 pub(crate) struct Asked {
     pub spec: FilterSpec,
+    pub first: u32,
+    pub last: Option<u32>,
+}
+
+/// Two tracks, by their numbers, of which the first is changed by a merge; from the first position to the last,
+/// where that is given.
+#[derive(Clone, Copy)]
+pub(crate) struct Crossing {
+    pub a: u32,
+    pub b: u32,
     pub first: u32,
     pub last: Option<u32>,
 }

@@ -207,6 +207,23 @@ fn cause_pieces(cause: Cause) -> [Piece; 6]
             Words(" of "),
             count(length),
         ],
+        Cause::NoMix => words("no mix to apply to"),
+        Cause::BadTrack { no, tracks } => [
+            Words("no track "),
+            count(no),
+            Words(" of "),
+            count(tracks),
+            NOTHING,
+            NOTHING,
+        ],
+        Cause::SameTrack { no } => [
+            Words("track "),
+            count(no),
+            Words(" named twice"),
+            NOTHING,
+            NOTHING,
+            NOTHING,
+        ],
         Cause::NoProducer => words("nothing to play"),
         Cause::TooMany { limit } => [
             Words("more than "),

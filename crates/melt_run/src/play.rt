@@ -1,10 +1,10 @@
 //! Plays a show on the calling thread, frame after frame.
 
-ghost use Rattle.std.specs.Prelude.{◌≡◌, ◌≤◌, ◌+◌, ◌^◌, ◌<◌, All, OnOk, OnErr, length};
+ghost use Rattle.std.specs.Prelude.{◌≡◌, ◌≤◌, ◌+◌, ◌^◌, ◌<◌, ℕ, All, IfSome, OnOk, OnErr, length};
 ghost use Rattle.mlt_base.specs.declared.port.Port.TheVariants.{Video};
 ghost use Rattle.mlt_base.specs.ProfileView.{measures_of};
 ghost use Rattle.mlt_eval.specs.Fitted.{AreFitted};
-ghost use Rattle.mlt_frame.specs.Loads.{loads as loads_of};
+ghost use Rattle.mlt_frame.specs.Loads.{load, map, loads as loads_of, maps as maps_of};
 ghost use Rattle.mlt_host.specs.Host.{Appends, AppendsFront, Counts, OnlyPort};
 ghost use Rattle.mlt_pool.specs.Class.{class_of};
 ghost use Rattle.mlt_pool.specs.Counts.{home_of, all_lent};
@@ -30,6 +30,7 @@ use mlt_pool::{Pool, class};
 use mlt_slice::Alone;
 use mlt_source::SourceTable;
 use mlt_start::start;
+use mlt_tree::MergeStep;
 use std::alloc::Global;
 
 /// The accounts of a run whose frames were all appended, made of so many pictures.
@@ -68,13 +69,30 @@ fn piece(show: &Show) -> usize
     show.output.piece(&show.profile) as usize
 }
 
-/// Whether operations load more pictures that are not kept than there are places left. It decides only how often
+/// The source whose picture an operation takes: one that it loads, or the map of a merge.
+fn source_of(op: &Op) -> Option<SourceNo>
+    ensures { (count : ℕ) → All (λ source. source < count) (load op.now) → All (λ source. source < count) (map op.now) → IfSome result (λ no. no.0 < count) }
+{
+    match op {
+        Op::Load { source, at: _ } => Some(*source),
+        Op::Merge { step, .. } => match step {
+            MergeStep::Luma { map, .. } => *map,
+            MergeStep::Composite { .. }
+            | MergeStep::Matte
+            | MergeStep::Mix { .. }
+            | MergeStep::Sum => None,
+        },
+        Op::Absent | Op::Filter { .. } | Op::Keep { .. } => None,
+    }
+}
+
+/// Whether operations take more pictures that are not kept than there are places left. It decides only how often
 /// a picture is fitted.
 fn is_short(ops: &[Op], fitted: &Fitted) -> bool {
     let mut spare = fitted.spare();
     for op in ops {
-        if let Op::Load { source, at: _ } = op {
-            if fitted.find(*source).is_none() {
+        if let Some(source) = source_of(op) {
+            if fitted.find(source).is_none() {
                 if spare == 0 {
                     return true;
                 }
@@ -105,10 +123,11 @@ fn keep_one(
     }
 }
 
-/// Fits the pictures that operations load and keeps them, so that a picture isn't fitted anew for each frame.
-/// Where they don't find room beside those that are kept, these go first.
+/// Fits the pictures that operations load, and those of their maps, and keeps them, so that a picture isn't fitted
+/// anew for each frame. Where they don't find room beside those that are kept, these go first.
 fn keep(alloc: Global, table: &SourceTable, profile: &Profile, fitted: &mut Fitted, ops: &[Op])
     requires there { All (λ source. source < length table.now) (loads_of ops.now) }
+    requires maps { All (λ source. source < length table.now) (maps_of ops.now) }
     requires fitted { AreFitted (measures_of profile.now) table.now fitted.old.fits }
     ensures { AreFitted (measures_of profile.now) table.now fitted.new.fits }
 {
@@ -116,8 +135,8 @@ fn keep(alloc: Global, table: &SourceTable, profile: &Profile, fitted: &mut Fitt
         fitted.clear();
     }
     for op in ops {
-        if let Op::Load { source, at: _ } = op {
-            keep_one(alloc, table, profile, fitted, *source);
+        if let Some(source) = source_of(op) {
+            keep_one(alloc, table, profile, fitted, source);
         }
     }
 }
@@ -304,7 +323,7 @@ fn play_all<H: Host>(alloc: Global, show: &Show, table: &SourceTable, host: &mut
 /// uses them again. As many fitted pictures are kept as the output's `cache` says; these are made as frames
 /// come to them, and where memory is wanting for one, it is fitted anew for each frame.
 ///
-/// The table fits what is played. Until they are built, that has nothing planted and no sound.
+/// The table fits what is played. Until it is built, that has no sound.
 pub fn play_serial<H: Host>(alloc: Global, show: Show, table: SourceTable, host: &mut H) -> Status
     requires fits { Fits table (tree show.sealed) }
     requires played { IsPlayed (meant show table) }

@@ -451,6 +451,155 @@ fn attaches_filters(rt: HostRuntime) -> Result<(), Fail> {
 }
 
 #[test]
+fn mixes_and_plants(rt: HostRuntime) -> Result<(), Fail> {
+    let alloc = rt.alloc();
+    answers(
+        &rt,
+        alloc,
+        &[
+            (
+                "colour:red out=2 colour:blue out=2 -mix 2 -mixer luma",
+                Status::Done(tally_with(4, 6)),
+                &[255, 0, 0, 255, 0, 0, 128, 0, 128, 0, 0, 255],
+                "",
+            ),
+            (
+                "colour:red out=2 colour:blue out=1 -mix 9 -mixer luma",
+                Status::Done(tally_with(3, 5)),
+                &[255, 0, 0, 255, 0, 0, 128, 0, 128],
+                "",
+            ),
+            (
+                "colour:red out=1 colour:blue out=1 -mix 1",
+                Status::Done(tally(3)),
+                &[255, 0, 0, 0, 0, 255, 0, 0, 255],
+                "",
+            ),
+            (
+                "colour:red out=2 -track -blank 0 colour:blue out=0",
+                Status::Done(tally(3)),
+                &[255, 0, 0, 0, 0, 255, 255, 0, 0],
+                "",
+            ),
+            (
+                "colour:red out=0 -hide-video colour:blue out=0",
+                Status::Done(tally(1)),
+                &[255, 0, 0],
+                "",
+            ),
+            (
+                "colour:red out=1 -track colour:blue out=1 -transition luma a_track=0 b_track=1 in=0 out=1",
+                Status::Done(tally_with(2, 4)),
+                &[255, 0, 0, 128, 0, 128],
+                "",
+            ),
+            (
+                "colour:red out=0 -track colour:0x0000ff80 out=0 -transition composite",
+                Status::Done(tally_with(1, 2)),
+                &[127, 0, 128],
+                "",
+            ),
+            (
+                "colour:red out=0 -track colour:white out=0 -transition matte",
+                Status::Done(tally_with(1, 2)),
+                &[255, 0, 0],
+                "",
+            ),
+            (
+                "-blank 0 -track colour:blue out=0 -transition luma",
+                Status::Done(tally(1)),
+                &[0, 0, 0],
+                "",
+            ),
+            (
+                "colour:red out=1 -filter invert in=1",
+                Status::Done(tally(2)),
+                &[255, 0, 0, 0, 255, 255],
+                "",
+            ),
+            (
+                "colour:red out=2 -track -blank 0 colour:blue out=1 -filter invert track=0 in=1 -transition luma in=1",
+                Status::Done(tally_with(3, 5)),
+                &[255, 0, 0, 0, 255, 255, 0, 128, 255],
+                "",
+            ),
+            (
+                "colour:red out=1 -track colour:blue out=1 -transition luma:p.ppm softness=1",
+                Status::Done(tally_with(2, 4)),
+                &[255, 0, 0, 18, 0, 237],
+                "",
+            ),
+        ],
+    )
+}
+
+#[test]
+fn refuses_mixes_and_plants(rt: HostRuntime) -> Result<(), Fail> {
+    let alloc = rt.alloc();
+    answers(
+        &rt,
+        alloc,
+        &[
+            (
+                "colour:red out=0 -transition luma a_track=0 b_track=1",
+                refusal(6, Cause::BadTrack { no: 1, tracks: 1 }),
+                &[],
+                "melt: word 6: no track 1 of 1\n",
+            ),
+            (
+                "colour:red out=0 -transition luma",
+                refusal(6, Cause::SameTrack { no: 0 }),
+                &[],
+                "melt: word 6: track 0 named twice\n",
+            ),
+            (
+                "colour:red out=0 -mixer luma",
+                refusal(6, Cause::NoMix),
+                &[],
+                "melt: word 6: no mix to apply to\n",
+            ),
+            (
+                "colour:red out=0 -mix 1",
+                refusal(6, Cause::TooFew { asked: 2, there: 1 }),
+                &[],
+                "melt: word 6: 2 wanted, 1 there\n",
+            ),
+            (
+                "colour:red out=2 colour:blue out=2 -mix 2 -track -mixer luma",
+                refusal(11, Cause::NoMix),
+                &[],
+                "melt: word 11: no mix to apply to\n",
+            ),
+            (
+                "colour:red -filter invert track=256",
+                refusal(
+                    7,
+                    Cause::OutOfRange {
+                        value: 256,
+                        low: 0,
+                        high: 255,
+                    },
+                ),
+                &[],
+                "melt: word 7: 256 is outside 0 to 255\n",
+            ),
+            (
+                "colour:red -track colour:blue -transition luma:none.ppm",
+                Status::SourceFault(7),
+                &[],
+                "melt: word 7: cannot read\n",
+            ),
+            (
+                "colour:red -track colour:blue -transition sum",
+                refusal(7, Cause::Unsupported),
+                &[],
+                "melt: word 7: option not supported\n",
+            ),
+        ],
+    )
+}
+
+#[test]
 fn refuses_filters(rt: HostRuntime) -> Result<(), Fail> {
     let alloc = rt.alloc();
     answers(

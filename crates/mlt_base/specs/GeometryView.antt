@@ -1,6 +1,20 @@
 -- A geometry of the code, as the definitions see it.
+use Rattle.std.specs.Prelude.{◌≤◌, unsigned_abs}
 use Rattle.mlt_base.specs.declared.geometry.Geometry.{Geometry}
 use Rattle.mlt_base.specs.Geometry.{Rectangle}
 
 abbrev pub rectangle_of : Geometry → Rectangle
 rectangle_of g = record { x = g.x; y = g.y; width = g.width; height = g.height; opacity = g.opacity }
+
+abbrev pub geometry_of : Rectangle → Geometry
+geometry_of r = record { x = r.x; y = r.y; width = r.width; height = r.height; opacity = r.opacity }
+
+-- the numbers of a geometry, in their ranges
+pub record IsPlacement (g : Geometry) : Type 0 where
+  pub x_near : unsigned_abs g.x ≤ 40960
+  pub y_near : unsigned_abs g.y ≤ 40960
+  pub some_width : 1 ≤ g.width
+  pub few_columns : g.width ≤ 4096
+  pub some_height : 1 ≤ g.height
+  pub few_rows : g.height ≤ 4096
+  pub opacity : g.opacity ≤ 100

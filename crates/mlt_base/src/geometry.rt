@@ -13,7 +13,8 @@ use crate::whole::whole_of;
 /// hundredths, 0 to 100.
 ///
 /// The corner may lie outside the frame, up to 40960 pixels from its left or upper edge. Width and
-/// height are 1 to 4096.
+/// height are 1 to 4096. A call that is handed one asks for these ranges (`IsPlacement` in
+/// `specs/GeometryView`).
 #[derive(Clone, Copy, Debug)]
 pub struct Geometry {
     pub x: i32,
@@ -21,13 +22,6 @@ pub struct Geometry {
     pub width: u32,
     pub height: u32,
     pub opacity: u8,
-    pub ghost x_near: { unsigned_abs x ≤ 40960 },
-    pub ghost y_near: { unsigned_abs y ≤ 40960 },
-    pub ghost width_at_least_one: { 1 ≤ width },
-    pub ghost width_at_most: { width ≤ 4096 },
-    pub ghost height_at_least_one: { 1 ≤ height },
-    pub ghost height_at_most: { height ≤ 4096 },
-    pub ghost opacity_at_most: { opacity ≤ 100 },
 }
 
 /// A whole number at most so far from 0.
@@ -157,7 +151,7 @@ fn shape(width: u32, height: u32, text: &[u8]) -> Option<(u32, u32, u32)>
 }
 
 impl Geometry {
-    ghost use Rattle.mlt_base.specs.GeometryView.{rectangle_of};
+    ghost use Rattle.mlt_base.specs.GeometryView.{rectangle_of, IsPlacement};
 
     /// Reads a geometry, `X/Y:WxH` or `X/Y:WxH:O`, in a profile; `,` may stand for `/`.
     ///
@@ -167,7 +161,8 @@ impl Geometry {
     /// comes where the text has no such form or a number is out of its range.
     #[tactic(auto, unfolding(crate::specs::Geometry::geometry))]
     pub fn read(text: &str, profile: &Profile) -> Option<Geometry>
-        ensures { option_map rectangle_of result ≡ geometry profile.now.width profile.now.height text.now }
+        ensures value { option_map rectangle_of result ≡ geometry profile.now.width profile.now.height text.now }
+        ensures range { IfSome result IsPlacement }
     {
         let (first, second) = split_once(b':', text.as_bytes())?;
         let (x, y) = corner(profile.width, profile.height, first)?;

@@ -8,7 +8,7 @@ use Rattle.mlt_graph.specs.declared.show.Pix.TheVariants.{Rgb, Rgba}
 use Rattle.mlt_tree.specs.Show.{packed}
 
 -- all bytes are zero
-clear_zeros : (pixels : ℕ) → clear pixels ≡ replicate (pixels * 4) 0
+pub clear_zeros : (pixels : ℕ) → clear pixels ≡ replicate (pixels * 4) 0
 clear_zeros zero = refl
 clear_zeros (suc n) =
     let more : suc n * 4 ≡ suc (suc (suc (suc (n * 4)))) = omega arith in

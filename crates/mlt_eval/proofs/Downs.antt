@@ -1,6 +1,8 @@
 -- Lists of registers that are read from a function: what one change makes of them.
-use Rattle.std.proofs.Common.{◌≡◌, ℕ, zero, suc, ◌+◌, ◌-◌, ◌<◌, ◌∷◌, get_or, set, drop, refl, ap, ◌∙◌, arith}
-use Rattle.mlt_eval.specs.Down.{down, IsPut}
+use Rattle.std.proofs.Common.{◌≡◌, ◌≢◌, ℕ, zero, suc, ◌+◌, ◌-◌, ◌<◌, ◌∷◌, nat_eq, Bool, if◌then◌else◌, Option, None, Some, get_or, set, drop, refl, sym, ap, ◌∙◌, inl, inr, ◌⊎◌, arith}
+use Rattle.std.proofs.lemmas.Bool.{cases_eq, eq-eqb, ne_eqb}
+use Rattle.mlt_eval.specs.Down.{down, IsPut, IsMerged}
+use Rattle.mlt_tree.specs.Meaning.{merged_into}
 
 module _ {A : Type 0} where
   -- functions that agree below n give the same list
@@ -52,3 +54,45 @@ module _ {A : Type 0} where
       let first : get_or (down f n) (count - 1 - row) d ≡ f (base + row) = get-down f n (base + row) (count - 1 - row) d (omega (arith, e, lt)) in
       let last : drop count (down f n) ≡ down f base = drop-down f n base count e in
       cc
+
+  -- f but for x at k
+  abbrev but : (ℕ → A) → (k : ℕ) → A → ℕ → A
+  but f k x j = if nat_eq j k then x else f j
+
+  but_is : (f : ℕ → A) (k : ℕ) (x : A) → IsPut f (but f k x) k x
+  but_is f k x = record {
+    here = ap (λ (t : Bool). if t then x else f k) (eq-eqb k k refl);
+    others = λ j other. ap (λ (t : Bool). if t then x else f j) (ne_eqb j k other);
+  }
+
+  -- two changed, one after the other, give what g gives below n
+  alike : (f first second g : ℕ → A) (n i j : ℕ) (x y : A) → IsPut f first i x → IsPut first second j y → g i ≡ x → g j ≡ y
+      → ((k : ℕ) → k < n → k ≢ i → k ≢ j → g k ≡ f k) → (k : ℕ) → k < n → (k ≡ j) ⊎ (k ≢ j) → (k ≡ i) ⊎ (k ≢ i) → g k ≡ second k
+  alike f first second g n i j x y once twice here there others k lt (inl is) any = ap g is ∙ there ∙ sym twice.here ∙ ap second (sym is)
+  alike f first second g n i j x y once twice here there others k lt (inr other) (inl is) =
+      ap g is ∙ here ∙ sym once.here ∙ ap first (sym is) ∙ sym (twice.others k other)
+  alike f first second g n i j x y once twice here there others k lt (inr other) (inr differs) =
+      others k lt differs other ∙ sym (once.others k differs) ∙ sym (twice.others k other)
+
+  -- two changed, so deep; above n all may differ
+  pub down_both : (f g : ℕ → A) (n i j a b : ℕ) (x y : A) → n ≡ i + a + 1 → n ≡ j + b + 1 → g i ≡ x → g j ≡ y
+      → ((k : ℕ) → k < n → k ≢ i → k ≢ j → g k ≡ f k) → down g n ≡ set (set (down f n) a x) b y
+  down_both f g n i j a b x y at_i at_j here there others =
+      let once = but_is f i x in let twice = but_is (but f i x) j y in
+      down_same (but (but f i x) j y) g n (λ k lt. alike f (but f i x) (but (but f i x) j y) g n i j x y once twice here there others k lt (cases_eq k j) (cases_eq k i))
+      ∙ down_put (but f i x) (but (but f i x) j y) n j b y at_j twice
+      ∙ ap (λ l. set l b y) (down_put f (but f i x) n i a x at_i once)
+
+-- two are merged, so deep
+module _ {A : Type 0} (merge : Option A → A → A) (f g : ℕ → Option A) (n i j a b : ℕ) where
+  pub down_merged : (x : Option A) → n ≡ i + a + 1 → n ≡ j + b + 1 → x ≡ f j → IsMerged n merge f g i j x
+      → down g n ≡ merged_into merge a b (down f n) (get_or (down f n) b None)
+  down_merged None at_i at_j is merged =
+      let nothing : get_or (down f n) b None ≡ None = get-down f n j b None at_j ∙ sym is in
+      down_same f g n merged ∙ sym (ap (merged_into merge a b (down f n)) nothing)
+  down_merged (Some z) at_i at_j is merged =
+      let above : get_or (down f n) b None ≡ Some z = get-down f n j b None at_j ∙ sym is in
+      let under : get_or (down f n) a None ≡ f i = get-down f n i a None at_i in
+      down_both f g n i j a b (Some (merge (f i) z)) None at_i at_j merged.into merged.gone merged.others
+      ∙ ap (λ (x : Option A). set (set (down f n) a (Some (merge x z))) b None) (sym under)
+      ∙ sym (ap (merged_into merge a b (down f n)) above)

@@ -1,11 +1,11 @@
 -- What operations make of registers that are read from a function.
-use Rattle.std.proofs.Common.{◌≡◌, ℕ, ◌+◌, ◌-◌, ◌<◌, ◌≤◌, List, [], ◌∷◌, ◌++◌, All, length, get_or, set, Option, None, Some, option_map, sym, ap, ◌∙◌, subst, arith}
+use Rattle.std.proofs.Common.{◌≡◌, ◌≢◌, ℕ, ◌+◌, ◌-◌, ◌<◌, ◌≤◌, List, [], ◌∷◌, ◌++◌, All, length, get_or, set, Option, None, Some, option_map, refl, sym, ap, ◌∙◌, subst, arith}
 use Rattle.std.proofs.lemmas.List.{get_or_append_left, get_or-append-add, get_or-set_same, get_or-set_other, length-append}
 use Rattle.mlt_base.specs.declared.profile.Pos.{Pos}
 use Rattle.mlt_base.specs.declared.profile.SourceNo.{SourceNo}
 use Rattle.mlt_eval.specs.declared.register.Register.{Register}
 use Rattle.mlt_eval.specs.declared.register.Register.TheVariants.{Nothing}
-use Rattle.mlt_eval.specs.Down.{down, IsPut}
+use Rattle.mlt_eval.specs.Down.{down, IsPut, IsMerged}
 use Rattle.mlt_eval.specs.Fitted.{Fit}
 use Rattle.mlt_eval.specs.Registers.{held, register}
 use Rattle.mlt_frame.specs.declared.op.Op.{Op}
@@ -13,8 +13,9 @@ use Rattle.mlt_frame.specs.declared.op.Op.TheVariants.{Load, Absent, Filter, Mer
 use Rattle.mlt_frame.specs.Fits.{Fits}
 use Rattle.mlt_frame.specs.Registers.{apply, regs}
 use Rattle.mlt_tree.specs.declared.filter.FilterStep.{FilterStep}
+use Rattle.mlt_tree.specs.declared.merge.MergeStep.{MergeStep}
 use Rattle.mlt_tree.specs.Meaning.{Matter}
-use Rattle.mlt_eval.proofs.Downs.{get-down, down_new, down_put, down_kept}
+use Rattle.mlt_eval.proofs.Downs.{get-down, down_new, down_put, down_kept, down_merged}
 
 -- where operations fit, there are no more registers than there is room for
 pub fits_within : (k n : ℕ) (ops : List Op) → Fits k n ops → n ≤ k
@@ -40,6 +41,12 @@ module _ {A : Type 0} (m : Matter A) (f g : ℕ → Option A) (n : ℕ) (op : Op
       let place : n ≡ (n - 1 - depth) + depth + 1 = omega arith in
       down_put f g n (n - 1 - depth) depth (option_map (m.filter step) (f (n - 1 - depth))) place put
       ∙ ap (λ (x : Option A). set (down f n) depth (option_map (m.filter step) x)) (sym (get-down f n (n - 1 - depth) depth None place))
+      ∙ sym (ap (apply m (down f n)) is)
+
+  pub merged : (a b : ℕ) (step : MergeStep) → op ≡ Merge a b step → (a < n) × (b < n) × (a ≢ b)
+      → IsMerged n (m.merge step) f g (n - 1 - a) (n - 1 - b) (f (n - 1 - b)) → down g n ≡ apply m (down f n) op
+  merged a b step is finds done =
+      down_merged (m.merge step) f g n (n - 1 - a) (n - 1 - b) a b (f (n - 1 - b)) (omega (arith, finds.0)) (omega (arith, finds.1)) refl done
       ∙ sym (ap (apply m (down f n)) is)
 
   pub kept : (row count : ℕ) → op ≡ Keep row count → (row < count) × (count ≤ n) → g (n - count) ≡ f (n - count + row)

@@ -1,11 +1,14 @@
 //! A picture in the first bytes of one block.
 
-ghost use Rattle.std.specs.Prelude.{◌≡◌, ◌*◌, ◌<◌, ◌≤◌, length, take, slice_get, IfSome, All};
+ghost use Rattle.std.specs.Prelude.{◌≡◌, ◌*◌, ◌<◌, ◌≤◌, true, length, take, slice_get, Some, IfSome, All, option_copied, unwrap_or};
+ghost use Rattle.mlt_base.specs.Picture.{clear};
 ghost use Rattle.mlt_base.specs.ProfileView.{measures_of};
-ghost use Rattle.mlt_eval.specs.Fitted.{AreFitted};
+ghost use Rattle.mlt_eval.specs.Fitted.{AreFitted, is_fitted};
 ghost use Rattle.mlt_eval.specs.Registers.{held, IsThere};
+ghost use Rattle.mlt_trans.specs.Maps.{IsMap};
 ghost use Rattle.mlt_tree.specs.Filters.{picture_filter};
-ghost use Rattle.mlt_tree.specs.Ranges.{IsFilterStep};
+ghost use Rattle.mlt_tree.specs.Merges.{map_of, picture_merge};
+ghost use Rattle.mlt_tree.specs.Ranges.{IsFilterStep, IsMergeStep};
 ghost use Rattle.mlt_tree.specs.Show.{pixels_of, picture_of};
 
 use crate::register::Register;
@@ -14,7 +17,8 @@ use mlt_base::{Profile, SourceNo};
 use mlt_pool::Lease;
 use mlt_slice::Bands;
 use mlt_source::SourceTable;
-use mlt_tree::FilterStep;
+use mlt_trans::merge_pictures;
+use mlt_tree::{FilterStep, MergeStep};
 use mlt_vfilter::apply;
 
 /// Writes the picture of a source to the first bytes.
@@ -28,13 +32,34 @@ fn load_bytes(table: &SourceTable, profile: &Profile, bytes: &mut [u8], no: Sour
 }
 
 /// Writes the picture of a source to a block.
-pub(crate) fn load_block(table: &SourceTable, profile: &Profile, block: &mut Lease, no: SourceNo)
+fn load_block(table: &SourceTable, profile: &Profile, block: &mut Lease, no: SourceNo)
     requires there { no.0 < length table.now }
     requires room { pixels_of (measures_of profile.now) * 4 ≤ length block.old }
     ensures picture { take (pixels_of (measures_of profile.now) * 4) block.new ≡ picture_of (measures_of profile.now) (slice_get table.now no.0) }
     ensures long { length block.new ≡ length block.old }
 {
     load_bytes(table, profile, block.bytes_mut(), no);
+}
+
+/// Brings the picture of a source about, and answers where it stands: it is fitted into a block where no fitted one
+/// is there.
+pub(crate) fn find_or_load(scene: &Scene<'_>, block: &mut Lease, no: SourceNo) -> Register
+    requires fitted { AreFitted (measures_of scene.now.profile.now) scene.now.table.now scene.now.fitted.now.fits }
+    requires room { pixels_of (measures_of scene.now.profile.now) * 4 ≤ length block.old }
+    requires source { no.0 < length scene.now.table.now }
+    ensures there { IsThere (length scene.now.fitted.now.fits) result }
+    ensures picture { held (pixels_of (measures_of scene.now.profile.now) * 4) scene.now.fitted.now.fits block.new result
+        ≡ Some (picture_of (measures_of scene.now.profile.now) (slice_get scene.now.table.now no.0)) }
+    ensures long { length block.new ≡ length block.old }
+    ensures still { is_fitted scene.now.fitted.now.fits no.0 ≡ true → block.new ≡ block.old }
+{
+    match scene.fitted.find(no) {
+        Some(place) => Register::Lent(place),
+        None => {
+            load_block(scene.table, scene.profile, block, no);
+            Register::Owned
+        }
+    }
 }
 
 /// Filters a picture of a frame's size.
@@ -105,4 +130,102 @@ pub(crate) fn filter_block<B: Bands>(
         }
         Register::Owned => filter_own(profile, bands, block.bytes_mut(), step),
     }
+}
+
+/// Makes a picture of a frame's size transparent black.
+fn clear_picture(_profile: &Profile, picture: &mut [u8])
+    requires { length picture.old ≡ pixels_of (measures_of _profile.now) * 4 }
+    ensures { picture.new ≡ clear (pixels_of (measures_of _profile.now)) }
+{
+    picture.fill(0);
+}
+
+/// Makes the picture in the first bytes transparent black.
+fn clear_own(profile: &Profile, bytes: &mut [u8])
+    requires room { pixels_of (measures_of profile.now) * 4 ≤ length bytes.old }
+    ensures { take (pixels_of (measures_of profile.now) * 4) bytes.new ≡ clear (pixels_of (measures_of profile.now)) }
+{
+    let count = fitted_bytes(profile);
+    clear_picture(profile, &mut bytes[..count]);
+}
+
+/// Brings what a register has into its block: transparent black where it has nothing.
+fn own_block(scene: &Scene<'_>, block: &mut Lease, state: Register)
+    requires fitted { AreFitted (measures_of scene.now.profile.now) scene.now.table.now scene.now.fitted.now.fits }
+    requires there { IsThere (length scene.now.fitted.now.fits) state }
+    requires room { pixels_of (measures_of scene.now.profile.now) * 4 ≤ length block.old }
+    ensures picture { take (pixels_of (measures_of scene.now.profile.now) * 4) block.new
+        ≡ unwrap_or (held (pixels_of (measures_of scene.now.profile.now) * 4) scene.now.fitted.now.fits block.old state) (clear (pixels_of (measures_of scene.now.profile.now))) }
+    ensures long { length block.new ≡ length block.old }
+{
+    match state {
+        Register::Nothing => clear_own(scene.profile, block.bytes_mut()),
+        Register::Lent(place) => {
+            let picture = scene.fitted.pixels(place);
+            copy_to(block.bytes_mut(), picture);
+        }
+        Register::Owned => {}
+    }
+}
+
+/// Merges a picture into one of a frame's size, by the picture of its map, where the merge takes one.
+fn merge_picture<B: Bands>(
+    profile: &Profile,
+    bands: &B,
+    picture: &mut [u8],
+    above: &[u8],
+    map: Option<&[u8]>,
+    step: &MergeStep,
+)
+    requires range { IsMergeStep step.now }
+    requires sized { length picture.old ≡ pixels_of (measures_of profile.now) * 4 }
+    requires above { length above.now ≡ pixels_of (measures_of profile.now) * 4 }
+    requires map { IsMap (map_of step.now) (pixels_of (measures_of profile.now) * 4) (option_copied map) }
+    ensures { picture.new ≡ picture_merge step.now (option_copied map.entry) profile.now.width picture.old above.now }
+{
+    merge_pictures(step, picture, above, map, profile.width, bands);
+}
+
+/// Merges a picture into the one in the first bytes.
+fn merge_own<B: Bands>(
+    profile: &Profile,
+    bands: &B,
+    bytes: &mut [u8],
+    above: &[u8],
+    map: Option<&[u8]>,
+    step: &MergeStep,
+)
+    requires range { IsMergeStep step.now }
+    requires room { pixels_of (measures_of profile.now) * 4 ≤ length bytes.old }
+    requires above { length above.now ≡ pixels_of (measures_of profile.now) * 4 }
+    requires map { IsMap (map_of step.now) (pixels_of (measures_of profile.now) * 4) (option_copied map) }
+    ensures { take (pixels_of (measures_of profile.now) * 4) bytes.new
+        ≡ picture_merge step.now (option_copied map.entry) profile.now.width (take (pixels_of (measures_of profile.now) * 4) bytes.old) above.now }
+{
+    let count = fitted_bytes(profile);
+    merge_picture(profile, bands, &mut bytes[..count], above, map, step);
+}
+
+/// Merges a picture into what a register has, in the register's block.
+pub(crate) fn merge_block<B: Bands>(
+    scene: &Scene<'_>,
+    bands: &B,
+    block: &mut Lease,
+    state: Register,
+    above: &[u8],
+    map: Option<&[u8]>,
+    step: &MergeStep,
+)
+    requires range { IsMergeStep step.now }
+    requires fitted { AreFitted (measures_of scene.now.profile.now) scene.now.table.now scene.now.fitted.now.fits }
+    requires there { IsThere (length scene.now.fitted.now.fits) state }
+    requires room { pixels_of (measures_of scene.now.profile.now) * 4 ≤ length block.old }
+    requires above { length above.now ≡ pixels_of (measures_of scene.now.profile.now) * 4 }
+    requires map { IsMap (map_of step.now) (pixels_of (measures_of scene.now.profile.now) * 4) (option_copied map) }
+    ensures picture { take (pixels_of (measures_of scene.now.profile.now) * 4) block.new
+        ≡ picture_merge step.now (option_copied map.entry) scene.now.profile.now.width (unwrap_or (held (pixels_of (measures_of scene.now.profile.now) * 4) scene.now.fitted.now.fits block.old state) (clear (pixels_of (measures_of scene.now.profile.now)))) above.now }
+    ensures long { length block.new ≡ length block.old }
+{
+    own_block(scene, block, state);
+    merge_own(scene.profile, bands, block.bytes_mut(), above, map, step);
 }

@@ -6,7 +6,7 @@ ghost use Rattle.mlt_eval.specs.Fitted.{AreFitted};
 ghost use Rattle.mlt_eval.specs.Pictures.{top_picture};
 ghost use Rattle.mlt_eval.specs.Still.{IsStill};
 ghost use Rattle.mlt_frame.specs.Fits.{Fits};
-ghost use Rattle.mlt_frame.specs.Loads.{loads};
+ghost use Rattle.mlt_frame.specs.Loads.{loads, maps};
 ghost use Rattle.mlt_frame.specs.Ranges.{IsInRange};
 ghost use Rattle.mlt_frame.specs.Registers.{regs};
 ghost use Rattle.mlt_frame.specs.Stack.{emptied};
@@ -37,6 +37,7 @@ fn draw_bytes<B: Bands>(
     requires size { pixels_of (measures_of scene.now.profile.now) * 4 ≤ rack.old.size }
     requires ranges { All IsInRange ops.now }
     requires sources { All (λ source. source < length scene.now.table.now) (loads ops.now) }
+    requires maps { All (λ source. source < length scene.now.table.now) (maps ops.now) }
     requires fits { Fits (length rack.old.blocks) 0 ops.now }
     requires room { pixels_of (measures_of scene.now.profile.now) * pixel_bytes pix ≤ length bytes.old }
     ensures video { take (pixels_of (measures_of scene.now.profile.now) * pixel_bytes pix) bytes.new
@@ -61,6 +62,7 @@ fn draw_lease<B: Bands>(
     requires size { pixels_of (measures_of scene.now.profile.now) * 4 ≤ rack.old.size }
     requires ranges { All IsInRange ops.now }
     requires sources { All (λ source. source < length scene.now.table.now) (loads ops.now) }
+    requires maps { All (λ source. source < length scene.now.table.now) (maps ops.now) }
     requires fits { Fits (length rack.old.blocks) 0 ops.now }
     requires room { pixels_of (measures_of scene.now.profile.now) * pixel_bytes pix ≤ length out.old }
     ensures video { take (pixels_of (measures_of scene.now.profile.now) * pixel_bytes pix) out.new
@@ -77,11 +79,12 @@ fn draw_lease<B: Bands>(
 ///
 /// The picture is laid over black, three bytes a pixel, or written as it is, four bytes a pixel, as the
 /// output asks. The frame has operations for at most as many registers as the rack has blocks, each of
-/// which has at least the bytes of a picture of the profile, four a pixel. The lease has at least the
-/// bytes that the output asks for. The operations load sources of the table, and each picture in `fitted`
-/// is that of its source. A picture that isn't there is fitted straight into the rack, and one that is
-/// there is never written to. `bands` goes through the rows of what is filtered. The stacks come back
-/// empty, with their room. The output has no sound. It takes no memory and never refuses.
+/// which has at least the bytes of a picture of the profile, four a pixel; at a merge one block is free,
+/// for the picture of its map. The lease has at least the bytes that the output asks for. The operations
+/// load sources of the table and take sources of it as maps, and each picture in `fitted` is that of its
+/// source. A picture that isn't there is fitted straight into the rack, and one that is there is never
+/// written to. `bands` goes through the rows of what is filtered and merged. The stacks come back empty,
+/// with their room. The output has no sound. It takes no memory and never refuses.
 pub fn render<B: Bands>(
     frame: Frame,
     table: &SourceTable,
@@ -94,6 +97,7 @@ pub fn render<B: Bands>(
     requires ranges { All IsInRange frame.image.ops }
     requires fits { Fits (length rack.old.blocks) 0 frame.image.ops }
     requires sources { All (λ source. source < length table.now) (loads frame.image.ops) }
+    requires maps { All (λ source. source < length table.now) (maps frame.image.ops) }
     requires size { pixels_of (measures_of profile.now) * 4 ≤ rack.old.size }
     requires piece { piece_of output.now profile.now ≤ length frame.out }
     requires fitted { AreFitted (measures_of profile.now) table.now fitted.now.fits }

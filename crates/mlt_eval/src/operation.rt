@@ -7,15 +7,16 @@ ghost use Rattle.mlt_eval.specs.Down.{IsPut};
 ghost use Rattle.mlt_eval.specs.Fitted.{Fit, AreFitted, is_fitted};
 ghost use Rattle.mlt_eval.specs.Registers.{register, registers, IsThere};
 ghost use Rattle.mlt_eval.specs.Still.{IsStill};
-ghost use Rattle.mlt_frame.specs.Fits.{Finds, Fits, after};
-ghost use Rattle.mlt_frame.specs.Loads.{load, loads};
+ghost use Rattle.mlt_frame.specs.Fits.{Finds, HasRoom, Fits, after};
+ghost use Rattle.mlt_frame.specs.Loads.{load, loads, map, maps};
 ghost use Rattle.mlt_frame.specs.Ranges.{IsInRange};
 ghost use Rattle.mlt_frame.specs.Registers.{apply, regs};
 ghost use Rattle.mlt_tree.specs.Filters.{picture_filter};
 ghost use Rattle.mlt_tree.specs.Ranges.{IsFilterStep};
 ghost use Rattle.mlt_tree.specs.Show.{pixels_of, picture_of, pictures_of};
 
-use crate::block::{filter_block, load_block};
+use crate::block::{filter_block, find_or_load};
+use crate::merging::merge;
 use crate::register::Register;
 use crate::scene::Scene;
 use mlt_base::SourceNo;
@@ -46,13 +47,7 @@ fn load(
         (Some (picture_of (measures_of scene.now.profile.now) (slice_get scene.now.table.now no.0))) }
     ensures still { is_fitted scene.now.fitted.now.fits no.0 ≡ true → blocks.new ≡ blocks.old }
 {
-    match scene.fitted.find(no) {
-        Some(place) => states[k] = Register::Lent(place),
-        None => {
-            load_block(scene.table, scene.profile, &mut blocks[k], no);
-            states[k] = Register::Owned;
-        }
-    }
+    states[k] = find_or_load(scene, &mut blocks[k], no);
 }
 
 /// Filters what a register has, where it has something.
@@ -115,8 +110,9 @@ fn apply<B: Bands>(
     requires room { pixels_of (measures_of scene.now.profile.now) * 4 ≤ _size }
     requires range { IsInRange op.now }
     requires sources { All (λ source. source < length scene.now.table.now) (load op.now) }
+    requires maps { All (λ source. source < length scene.now.table.now) (map op.now) }
     requires finds { Finds count op.now }
-    requires inside { count ≤ length blocks.old }
+    requires space { HasRoom (length blocks.old) count op.now }
     requires more { after count op.now ≤ length blocks.old }
     ensures blocks { AreBlocks _size blocks.new states.new }
     ensures there { All (IsThere (length scene.now.fitted.now.fits)) states.new }
@@ -140,7 +136,12 @@ fn apply<B: Bands>(
             filter(scene, bands, blocks, states, _size, k, step);
             count
         }
-        Op::Merge { .. } => unreachable!(),
+        Op::Merge { a, b, step } => {
+            let into = count - 1 - *a as usize;
+            let from = count - 1 - *b as usize;
+            merge(scene, bands, blocks, states, _size, count, into, from, step);
+            count
+        }
         Op::Keep { row, count: over } => {
             let base = count - *over as usize;
             keep(blocks, states, _size, base, base + *row as usize);
@@ -164,6 +165,7 @@ pub(crate) fn run<B: Bands>(
     requires room { pixels_of (measures_of scene.now.profile.now) * 4 ≤ _size }
     requires ranges { All IsInRange ops.now }
     requires sources { All (λ source. source < length scene.now.table.now) (loads ops.now) }
+    requires maps { All (λ source. source < length scene.now.table.now) (maps ops.now) }
     requires fits { Fits (length blocks.old) 0 ops.now }
     ensures blocks { AreBlocks _size blocks.new states.new }
     ensures there { All (IsThere (length scene.now.fitted.now.fits)) states.new }

@@ -7,7 +7,7 @@ ghost use Rattle.mlt_eval.specs.Lending.{AreLent};
 ghost use Rattle.mlt_eval.specs.Pictures.{top_picture};
 ghost use Rattle.mlt_eval.specs.Still.{IsStill};
 ghost use Rattle.mlt_frame.specs.Fits.{Fits};
-ghost use Rattle.mlt_frame.specs.Loads.{loads};
+ghost use Rattle.mlt_frame.specs.Loads.{loads, maps};
 ghost use Rattle.mlt_frame.specs.Ranges.{IsInRange};
 ghost use Rattle.mlt_frame.specs.Registers.{regs};
 ghost use Rattle.mlt_graph.specs.Piece.{pixel_bytes};
@@ -89,6 +89,7 @@ impl Rack {
         requires size { pixels_of (measures_of scene.now.profile.now) * 4 ≤ self.old.size }
         requires ranges { All IsInRange ops.now }
         requires sources { All (λ source. source < length scene.now.table.now) (loads ops.now) }
+        requires maps { All (λ source. source < length scene.now.table.now) (maps ops.now) }
         requires fits { Fits (length self.old.blocks) 0 ops.now }
         requires out { length out.old ≡ pixels_of (measures_of scene.now.profile.now) * pixel_bytes pix }
         ensures video { out.new ≡ packed (pix_of pix) (top_picture (measures_of scene.now.profile.now) (regs (pictures_of (measures_of scene.now.profile.now) scene.now.table.now) [] ops.now)) }

@@ -4,19 +4,19 @@ ghost use Rattle.std.specs.Prelude.{◌≡◌, ◌<◌, None, length, All, IfOk}
 ghost use Rattle.mlt_base.specs.ProfileView.{measures_of};
 ghost use Rattle.mlt_eval.specs.Fitted.{AreFitted};
 ghost use Rattle.mlt_frame.specs.Fits.{Fits};
-ghost use Rattle.mlt_frame.specs.Loads.{loads};
+ghost use Rattle.mlt_frame.specs.Loads.{loads, maps};
 ghost use Rattle.mlt_frame.specs.Ranges.{IsInRange};
 ghost use Rattle.mlt_pool.specs.Counts.{all_lent};
 
 use super::*;
-use mlt_base::{Pos, Profile, Rate, SourceNo, Text};
+use mlt_base::{Pos, Profile, Q16, Rate, SourceNo, Text};
 use mlt_frame::{Frame, Op, OpStack};
 use mlt_graph::{Format, Output, Pix};
 use mlt_image::Colour;
 use mlt_pool::Pool;
 use mlt_slice::Alone;
 use mlt_source::SourceTable;
-use mlt_tree::FilterStep;
+use mlt_tree::{FilterStep, MergeStep};
 use std::alloc::{AllocError, Global};
 use std::test::Fail;
 
@@ -195,6 +195,7 @@ fn render_lent(
     requires ranges { All IsInRange ops.now }
     requires fits { Fits 3 0 ops.now }
     requires sources { All (λ source. source < 2) (loads ops.now) }
+    requires maps { All (λ source. source < 2) (maps ops.now) }
     ensures { all_lent pool.new ≡ all_lent pool.old }
 {
     let profile = two_pixels();
@@ -231,6 +232,7 @@ fn render_ops(
     requires ranges { All IsInRange ops.now }
     requires fits { Fits 3 0 ops.now }
     requires sources { All (λ source. source < 2) (loads ops.now) }
+    requires maps { All (λ source. source < 2) (maps ops.now) }
 {
     let mut pool = Pool::new(alloc);
     if pool.reserve(12, 4).is_err() {
@@ -263,6 +265,31 @@ const INVERT: Op = Op::Filter {
 /// Leaves the upper one of the top two registers.
 const UPPER: Op = Op::Keep { row: 1, count: 2 };
 
+/// Leaves the lower one of the top two registers.
+const LOWER: Op = Op::Keep { row: 0, count: 2 };
+
+/// Dissolves the lower one of the top two registers into the upper one, halfway.
+const DISSOLVE: Op = Op::Merge {
+    a: 1,
+    b: 0,
+    step: MergeStep::Luma {
+        map: None,
+        softness: Q16(0),
+        q: Q16(32768),
+    },
+};
+
+/// Wipes from the lower one of the top two registers to the upper one, softly, by the source that isn't fitted.
+const WIPE: Op = Op::Merge {
+    a: 1,
+    b: 0,
+    step: MergeStep::Luma {
+        map: Some(SourceNo(1)),
+        softness: Q16(65536),
+        q: Q16(16384),
+    },
+};
+
 #[test]
 fn frames_are_rendered(rt: HostRuntime) -> Result<(), Fail> {
     let alloc = rt.alloc();
@@ -284,5 +311,19 @@ fn frames_are_rendered(rt: HostRuntime) -> Result<(), Fail> {
         &[5, 10, 15, 5, 10, 15],
     )?;
     assert_eq!(rt; kept, Some((true, 5, 2, 0)));
+    let dissolved = render_ops(
+        alloc,
+        &[FIRST, SECOND, DISSOLVE, LOWER],
+        Pix::Rgba,
+        &[105, 60, 40, 192, 105, 60, 40, 192],
+    )?;
+    assert_eq!(rt; dissolved, Some((true, 5, 2, 0)));
+    let wiped = render_ops(
+        alloc,
+        &[FIRST, SECOND, WIPE, LOWER],
+        Pix::Rgba,
+        &[118, 66, 41, 200, 118, 66, 41, 200],
+    )?;
+    assert_eq!(rt; wiped, Some((true, 5, 2, 0)));
     Ok(())
 }

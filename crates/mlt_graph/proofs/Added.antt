@@ -1,23 +1,25 @@
 -- A unit is put behind the others of a graph.
-use Rattle.std.proofs.Common.{◌≡◌, ℕ, ◌+◌, ◌<◌, ◌≤◌, ◌^◌, ◌⊎◌, inl, inr, List, [], ◌∷◌, ◌++◌, length, get_or, map, sym, ap, ◌∙◌, subst, arith, length-append}
+use Rattle.std.proofs.Common.{◌≡◌, ℕ, ◌+◌, ◌<◌, ◌≤◌, ◌^◌, ◌⊎◌, inl, inr, List, [], ◌∷◌, ◌++◌, length, get_or, map, refl, sym, ap, ◌∙◌, subst, arith, length-append}
 use Rattle.std.proofs.lemmas.Bool.{cases_lt}
 use Rattle.std.proofs.lemmas.List.{get_or_append_left, get_or_push, map-append}
-use Rattle.std.proofs.lemmas.List.Elements.{All-nil, All-push}
+use Rattle.std.proofs.lemmas.List.Elements.{All-nil, All-push, All-from_recursion, recursion_from_All}
 use Rattle.std.specs.List.{All}
 use Rattle.mlt_tree.specs.declared.entry.Entry.{Entry}
+use Rattle.mlt_tree.specs.declared.entry.Entry.TheVariants.{Clip, Gap}
 use Rattle.mlt_tree.specs.declared.node.Body.{Body}
 use Rattle.mlt_tree.specs.declared.node.Body.TheVariants.{Entries}
 use Rattle.mlt_tree.specs.declared.node.Node.{Node}
+use Rattle.mlt_tree.specs.declared.node.Track.TheVariants.{Half}
 use Rattle.mlt_tree.specs.Edits.{frames_in}
-use Rattle.mlt_tree.specs.Ranges.{IsAttached}
-use Rattle.mlt_tree.specs.Tree.{Tree}
-use Rattle.mlt_tree.specs.Units.{list_unit, node_tree, tree_of, body_depth, depth_of, IsEntryBelow, IsBodyBelow, IsGraph}
+use Rattle.mlt_tree.specs.Ranges.{IsAttached, IsEntry, IsPlant, frames}
+use Rattle.mlt_tree.specs.Tree.{Tree, len}
+use Rattle.mlt_tree.specs.Units.{entry_tree, list_unit, mix_unit, node_tree, tree_of, body_depth, depth_of, IsEntryBelow, AreEntriesBelow, IsTrackBelow, IsOnTracks, IsBodyBelow, IsGraph}
 use Rattle.mlt_graph.specs.Graph.{HasLength, HasFewTracks, IsBuilt, IsSized}
 use Rattle.mlt_graph.specs.Lists.{starts_in}
-use Rattle.mlt_graph.specs.Sizes.{nothing, size_of, entries_size, list_size}
+use Rattle.mlt_graph.specs.Sizes.{nothing, size_of, entries_size, list_size, mix_size}
 use Rattle.mlt_graph.specs.declared.size.Size.{Size}
 use Rattle.mlt_graph.specs.declared.weight.Weight.{Weight}
-use Rattle.mlt_graph.proofs.SizeLemmas.{len_in-frames, list_size-is}
+use Rattle.mlt_graph.proofs.SizeLemmas.{len_in-frames, list_size-is, mix_size-is}
 use Rattle.mlt_graph.proofs.Trees.{tree_of-append, tree_of-new, depth_of-append, depth_of-new}
 
 -- a unit with no filter
@@ -101,3 +103,44 @@ pub list_unit-size : (us : List Node) (sizes : List Size) (es : List Entry) → 
     → list_size (entries_size sizes es) ≡ size_of (node_tree (tree_of us) (list_unit es)) (body_depth (depth_of us) (Entries es))
 list_unit-size us sizes es sized below =
     list_size-is sizes (tree_of us) (depth_of us) sized.told es (subst (λ (n : ℕ). All (IsEntryBelow n) es) (sym sized.long) below)
+
+-- ---- mixes
+
+entry-length : (units : ℕ → Tree) (e : Entry) → len (entry_tree units e) ≡ frames e
+entry-length units (Clip unit span filters) = refl
+entry-length units (Gap count) = refl
+
+-- a half is of lower units
+half-below : (count : ℕ) (e : Entry) → IsEntryBelow count e → IsEntry e → IsTrackBelow count (Half e)
+half-below count e below range = record {
+  entries = record {
+    below = All-from_recursion (IsEntryBelow count) (e ∷ []) (below, tt);
+    ranges = All-from_recursion IsEntry (e ∷ []) (range, tt);
+  };
+  filters = All-nil IsAttached;
+}
+
+pub mix-below : (count : ℕ) (a b : Entry) → AreEntriesBelow count (a ∷ b ∷ []) → IsBodyBelow count (mix_unit a b).body
+mix-below count a b are =
+    let below = recursion_from_All (IsEntryBelow count) (a ∷ b ∷ []) are.below in
+    let ranges = recursion_from_All IsEntry (a ∷ b ∷ []) are.ranges in
+    record {
+      some = omega arith;
+      tracks_below = All-from_recursion (IsTrackBelow count) (Half a ∷ Half b ∷ []) (half-below count a below.0 ranges.0, (half-below count b below.1.0 ranges.1.0, tt));
+      ranges = All-nil IsPlant;
+      on_tracks = All-nil (IsOnTracks 2);
+    }
+
+-- a mix has as many frames as each half
+pub mix-length : (units : ℕ → Tree) (a b : Entry) (n : ℕ) → frames a ≡ n → frames b ≡ n → 1 ≤ n → n < 2 ^ 31 → HasLength (node_tree units (mix_unit a b))
+mix-length units a b n first second some short = record {
+  some = omega (arith, entry-length units a, entry-length units b, first, second);
+  short = omega (arith, entry-length units a, entry-length units b, first, second);
+}
+
+-- and the size that is made up of both
+pub mix-size : (us : List Node) (sizes : List Size) (a b : Entry) → IsSized us sizes → AreEntriesBelow (length us) (a ∷ b ∷ [])
+    → mix_size sizes a b ≡ size_of (node_tree (tree_of us) (mix_unit a b)) (body_depth (depth_of us) (mix_unit a b).body)
+mix-size us sizes a b sized are =
+    let below = recursion_from_All (IsEntryBelow (length sizes)) (a ∷ b ∷ []) (subst (λ (n : ℕ). All (IsEntryBelow n) (a ∷ b ∷ [])) (sym sized.long) are.below) in
+    mix_size-is sizes (tree_of us) (depth_of us) sized.told a b below.0 below.1.0

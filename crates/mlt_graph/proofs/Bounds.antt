@@ -1,5 +1,5 @@
 -- How great the numbers of a unit can be.
-use Rattle.std.proofs.Common.{◌≡◌, ℕ, zero, suc, ◌+◌, ◌-◌, ◌*◌, ◌<◌, ◌≤◌, List, [], ◌∷◌, length, get_or, refl, sym, subst, arith}
+use Rattle.std.proofs.Common.{◌≡◌, ℕ, zero, suc, ◌+◌, ◌*◌, ◌<◌, ◌≤◌, List, [], ◌∷◌, length, get_or, refl, sym, subst, arith}
 use Rattle.std.proofs.lemmas.Bool.Decides.{nat_tests}
 use Rattle.std.proofs.lemmas.List.{get_or_default}
 use Rattle.std.proofs.lemmas.List.Elements.{recursion_from_All}
@@ -10,10 +10,11 @@ use Rattle.mlt_tree.specs.declared.node.Body.{Body}
 use Rattle.mlt_tree.specs.declared.node.Body.TheVariants.{Source, Entries, Tractor}
 use Rattle.mlt_tree.specs.declared.node.Node.{Node}
 use Rattle.mlt_tree.specs.declared.node.Track.{Track as TrackOf}
+use Rattle.mlt_tree.specs.declared.node.Track.TheVariants.{Playlist, Half}
 use Rattle.mlt_tree.specs.declared.tree.Plant.{Plant}
 use Rattle.mlt_tree.specs.Sizes.{need, weight, ops, need_in, weight_in, ops_in, need_of_rows, weight_of_rows, ops_of_rows, tracks_in}
 use Rattle.mlt_tree.specs.Tree.{Tree}
-use Rattle.mlt_tree.specs.Units.{parts_of, tracks_of, body_tree, node_tree, tree_of, entries_depth, tracks_depth, body_depth, depth_of, IsEntryBelow, IsTrackBelow, IsBodyBelow, IsGraph}
+use Rattle.mlt_tree.specs.Units.{entry_tree, entries_of, parts_of, track_tree, tracks_of, body_tree, node_tree, tree_of, entries_depth, tracks_depth, body_depth, depth_of, IsEntryBelow, IsTrackBelow, IsBodyBelow, IsGraph}
 use Rattle.mlt_graph.specs.Graph.{HasFewTracks}
 use Rattle.mlt_graph.proofs.Trees.{depth_of-step, every_unit}
 
@@ -23,39 +24,58 @@ tracks_in-of units (t ∷ ts) = omega (arith, tracks_in-of units ts)
 
 -- ---- operations against weight
 
--- fewer operations than twice the weight, where it has a weight
+-- a weight, and fewer operations than twice the weight
 abbrev FewOps : Tree → Type 0
-FewOps t = ops t ≤ 2 * weight t - 1
+FewOps t = ops t + 1 ≤ 2 * weight t
+
+-- a tractor has a track
+abbrev HasSomeTrack : Body → Type 0
+HasSomeTrack (Source source kind frames) = Unit {0}
+HasSomeTrack (Entries entries) = Unit {0}
+HasSomeTrack (Tractor tracks plants) = 1 ≤ length tracks
+
+has-some : (count : ℕ) (body : Body) → IsBodyBelow count body → HasSomeTrack body
+has-some count (Source source kind frames) below = tt
+has-some count (Entries entries) below = tt
+has-some count (Tractor tracks plants) below = below.some
 
 module _ (units : ℕ → Tree) (few : (k : ℕ) → FewOps (units k)) where
+  entry-few : (e : Entry) → FewOps (entry_tree units e)
+  entry-few (Clip unit span filters) = omega (arith, few unit.0)
+  entry-few (Gap frames) = omega arith
+
   ops_in-few : (es : List Entry) → ops_in (parts_of units es) + 1 ≤ 2 * weight_in (parts_of units es)
   ops_in-few [] = omega arith
   ops_in-few (Clip unit span filters ∷ es) = omega (arith, few unit.0, ops_in-few es)
   ops_in-few (Gap frames ∷ es) = omega (arith, ops_in-few es)
 
+  track-few : (t : TrackOf) → FewOps (track_tree units t)
+  track-few (Playlist entries filters hide) = omega (arith, ops_in-few entries)
+  track-few (Half entry) = entry-few entry
+
   ops_of_rows-few : (ts : List TrackOf) → ops_of_rows (tracks_of units ts) + length ts ≤ 2 * weight_of_rows (tracks_of units ts)
   ops_of_rows-few [] = omega arith
-  ops_of_rows-few (t ∷ ts) = omega (arith, ops_in-few t.entries, ops_of_rows-few ts)
+  ops_of_rows-few (t ∷ ts) = omega (arith, track-few t, ops_of_rows-few ts)
 
-  rows-few : (ts : List TrackOf) (ps : List Plant) → FewOps (body_tree units (Tractor ts ps))
-  rows-few [] ps = omega arith
-  rows-few (t ∷ ts) ps =
-      let h = ops_of_rows-few (t ∷ ts) in
-      let n = tracks_in-of units (t ∷ ts) in
+  rows-few : (ts : List TrackOf) (ps : List Plant) → 1 ≤ length ts → FewOps (body_tree units (Tractor ts ps))
+  rows-few ts ps some =
+      let h = ops_of_rows-few ts in
+      let n = tracks_in-of units ts in
       grind (arith, nat_tests)
 
-  body-few : (body : Body) → FewOps (body_tree units body)
-  body-few (Source source kind frames) = omega arith
-  body-few (Entries entries) = omega (arith, ops_in-few entries)
-  body-few (Tractor tracks plants) = rows-few tracks plants
+  body-few : (body : Body) → HasSomeTrack body → FewOps (body_tree units body)
+  body-few (Source source kind frames) some = omega arith
+  body-few (Entries entries) some = omega (arith, ops_in-few entries)
+  body-few (Tractor tracks plants) some = rows-few tracks plants some
 
-  node-few : (u : Node) → FewOps (node_tree units u)
-  node-few u = omega (arith, body-few u.body)
+  node-few : (u : Node) → HasSomeTrack u.body → FewOps (node_tree units u)
+  node-few u some = omega (arith, body-few u.body some)
 
-pub ops-le : (us : List Node) (k : ℕ) → ops (tree_of us k) ≤ 2 * weight (tree_of us k)
-ops-le us k =
+pub ops-le : (us : List Node) → IsGraph us → (k : ℕ) → ops (tree_of us k) ≤ 2 * weight (tree_of us k)
+ops-le us graph k =
     let few : FewOps (tree_of us k) =
-    every_unit (λ u. Unit {0}) (λ t depth. FewOps t) (omega arith) (λ units depths u fits few. node-few units few u) us (λ i d below. tt) k in
+    every_unit (λ u. HasSomeTrack u.body) (λ t depth. FewOps t) (omega arith) (λ units depths u some few. node-few units few u some) us
+    (λ i d within. has-some i (get_or us i d).body (graph.bodies i (get_or us i d) within (get_or_default us i d (get_or us i d) within))) k in
     omega arith
 
 -- ---- buffers against depth
@@ -69,9 +89,14 @@ module _ (units : ℕ → Tree) (depths : ℕ → ℕ) (few : (k : ℕ) → FewB
   need_in-few (Clip unit span filters ∷ es) = omega (arith, few unit.0, need_in-few es)
   need_in-few (Gap frames ∷ es) = omega (arith, need_in-few es)
 
+  track-buffers : (t : TrackOf) → need (track_tree units t) ≤ 257 * (entries_depth depths (entries_of t) + 1)
+  track-buffers (Playlist entries filters hide) = omega (arith, need_in-few entries)
+  track-buffers (Half (Clip unit span filters)) = omega (arith, few unit.0)
+  track-buffers (Half (Gap frames)) = omega arith
+
   need_of_rows-few : (ts : List TrackOf) → need_of_rows (tracks_of units ts) ≤ 257 * (tracks_depth depths ts + 1)
   need_of_rows-few [] = omega arith
-  need_of_rows-few (t ∷ ts) = omega (arith, need_in-few t.entries, need_of_rows-few ts)
+  need_of_rows-few (t ∷ ts) = omega (arith, track-buffers t, need_of_rows-few ts)
 
   body-buffers : (body : Body) → HasFewTracks body → FewBuffers (body_tree units body) (body_depth depths body)
   body-buffers (Source source kind frames) tracks = omega arith
@@ -93,7 +118,7 @@ module _ (count : ℕ) (depths : ℕ → ℕ) (low : (k : ℕ) → k < count →
   tracks_depth-low : (ts : List TrackOf) → AllByRecursion (IsTrackBelow count) ts → tracks_depth depths ts ≤ count
   tracks_depth-low [] below = omega arith
   tracks_depth-low (t ∷ ts) below =
-      omega (arith, entries_depth-low t.entries (recursion_from_All (IsEntryBelow count) t.entries below.0.entries.below), tracks_depth-low ts below.1)
+      omega (arith, entries_depth-low (entries_of t) (recursion_from_All (IsEntryBelow count) (entries_of t) below.0.entries.below), tracks_depth-low ts below.1)
 
   body_depth-low : (body : Body) → IsBodyBelow count body → body_depth depths body ≤ count + 1
   body_depth-low (Source source kind frames) below = omega arith

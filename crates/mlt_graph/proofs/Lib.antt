@@ -1,10 +1,10 @@
 pub mod Added
 pub mod Bounds
-pub mod Filtered
+pub mod Changed
 pub mod ListLemmas
+pub mod Placed
 pub mod Sealing
 pub mod SizeLemmas
 pub mod Tractors
 pub mod Trees
-pub mod Unplanted
 pub mod WeightLemmas

@@ -55,12 +55,12 @@ module _ (us : List Node) (sizes : List Size) (k : ℕ) (size : Size) (sized : I
         let t = tree_of us k in
         let length-is : size.length ≡ len t = ap (λ (s : Size). s.length) size-is ∙ omega (arith, sized.lengths k there) in
         let buffers : need t ≤ 4369 = omega (arith, need-le us sized.tracks k, depth-is) in
-        let operations : ops t ≤ 131072 = omega (arith, ops-le us k, weight-low light) in
+        let operations : ops t ≤ 131072 = omega (arith, ops-le us sized.graph k, weight-low light) in
         let need-is : size.need ≡ need t = ap (λ (s : Size). s.need) size-is ∙ omega arith in
         let ops-is : weight.ops ≡ ops t = ap (λ (w : Weight). w.ops) weight-is ∙ omega arith in
         let frames = sized.lengths k there in
         record {
-          is = record { graph = sized.graph; top = there };
+          is = record { graph = sized.graph; top = there; tracks = sized.tracks };
           depth = omega (arith, depth-is);
           weight = weight-low light;
           length = length-is;

@@ -15,12 +15,12 @@ use Rattle.mlt_tree.specs.declared.node.Node.{Node}
 use Rattle.mlt_tree.specs.declared.node.Track.{Track as TrackOf}
 use Rattle.mlt_tree.specs.Sizes.{need_in, need_of_rows}
 use Rattle.mlt_tree.specs.Tree.{Tree, Parts, End, Then, Seq, len_in, longest}
-use Rattle.mlt_tree.specs.Units.{entry_tree, parts_of, track_of, tracks_of, node_tree, entries_depth, tracks_depth, body_depth, IsEntryBelow}
+use Rattle.mlt_tree.specs.Units.{entry_tree, mix_unit, parts_of, track_of, tracks_of, node_tree, entries_depth, tracks_depth, body_depth, IsEntryBelow}
 use Rattle.mlt_tree.specs.Edits.{frames_in}
 use Rattle.mlt_tree.specs.Ranges.{frames}
 use Rattle.mlt_graph.specs.declared.size.Size.{Size}
 use Rattle.mlt_graph.proofs.Bounds.{tracks_in-of}
-use Rattle.mlt_graph.specs.Sizes.{kept, size_of, nothing, plain, entry_size, then_size, entries_size, over_size, drafts_size, list_size, tractor_size, AreSizes}
+use Rattle.mlt_graph.specs.Sizes.{kept, size_of, nothing, plain, entry_size, then_size, entries_size, over_size, drafts_size, list_size, tractor_size, mix_size, AreSizes}
 
 abbrev sized : (length need depth : ℕ) → Size
 sized length need depth = record { length = length; need = need; depth = depth }
@@ -124,6 +124,16 @@ module _ (table : List Size) (units : ℕ → Tree) (depths : ℕ → ℕ) (tell
       → list_size (entries_size table es) ≡ unit_size (record { body = Entries es; filters = [] })
   list_size-is es below =
       ap list_size (entries_size-is es below) ∙ same_size _ _ refl refl (omega arith)
+
+  entry-alone : (e : Entry) → entries_depth depths (e ∷ []) ≡ entry_depth e
+  entry-alone (Clip unit span filters) = omega arith
+  entry-alone (Gap frames) = omega arith
+
+  pub mix_size-is : (a b : Entry) → IsEntryBelow (length table) a → IsEntryBelow (length table) b → mix_size table a b ≡ unit_size (mix_unit a b)
+  mix_size-is a b a_below b_below =
+      ap (λ s. tractor_size 2 (over_size s (entry_size table b))) (entry_size-is a a_below)
+      ∙ ap (λ s. tractor_size 2 (over_size (size_of (entry_tree units a) (entry_depth a)) s)) (entry_size-is b b_below)
+      ∙ same_size _ _ (omega arith) (omega arith) (omega (arith, entry-alone a, entry-alone b))
 
   pub tractor_size-is : (drafts : List Draft) (plants : List Plant) → All AreBelow drafts
       → tractor_size (length drafts) (drafts_size table drafts) ≡ unit_size (record { body = Tractor (map track_of drafts) plants; filters = [] })

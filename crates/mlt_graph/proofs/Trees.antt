@@ -12,8 +12,9 @@ use Rattle.mlt_tree.specs.declared.node.Body.{Body}
 use Rattle.mlt_tree.specs.declared.node.Body.TheVariants.{Source, Entries, Tractor}
 use Rattle.mlt_tree.specs.declared.node.Node.{Node}
 use Rattle.mlt_tree.specs.declared.node.Track.{Track as TrackOf}
+use Rattle.mlt_tree.specs.declared.node.Track.TheVariants.{Playlist, Half}
 use Rattle.mlt_tree.specs.Tree.{Tree, Blank, Part, Seq, With, Rows, Then, Track}
-use Rattle.mlt_tree.specs.Units.{entry_tree, parts_of, track_tree, tracks_of, body_tree, node_tree, tree_of, entries_depth, tracks_depth, body_depth, depths, depth_of, IsEntryBelow, IsTrackBelow, IsBodyBelow, IsGraph}
+use Rattle.mlt_tree.specs.Units.{entry_tree, entries_of, hide_of, parts_of, track_tree, tracks_of, body_tree, node_tree, tree_of, entries_depth, tracks_depth, body_depth, depths, depth_of, IsEntryBelow, IsTrackBelow, IsBodyBelow, IsGraph}
 
 -- what is read once one more item is there
 get_or-pushed : {X : Type 0} (past : X) (xs : List X) (x : X) (k n : ℕ) → length xs ≡ n → get_or (xs ++ x ∷ []) k past ≡ cond (eqb k n) x (get_or xs k past)
@@ -110,11 +111,17 @@ module _ (count : ℕ) (f g : ℕ → Tree) (agree : Agree count f g) where
   parts_of-agree (e ∷ es) below =
       ap (λ t. Then t (parts_of f es)) (entry_tree-agree e below.0) ∙ ap (Then (entry_tree g e)) (parts_of-agree es below.1)
 
+  track_tree-agree : (track : TrackOf) → IsTrackBelow count track → track_tree f track ≡ track_tree g track
+  track_tree-agree (Playlist entries filters hide) below =
+      ap (λ parts. With (Seq parts) filters) (parts_of-agree entries (recursion_from_All (IsEntryBelow count) entries below.entries.below))
+  track_tree-agree (Half entry) below =
+      entry_tree-agree entry (recursion_from_All (IsEntryBelow count) (entry ∷ []) below.entries.below).0
+
   tracks_of-agree : (tracks : List TrackOf) → AllByRecursion (IsTrackBelow count) tracks → tracks_of f tracks ≡ tracks_of g tracks
   tracks_of-agree [] below = refl
   tracks_of-agree (t ∷ ts) below =
-      ap (λ parts. Track (With (Seq parts) t.filters) t.hide (tracks_of f ts)) (parts_of-agree t.entries (recursion_from_All (IsEntryBelow count) t.entries below.0.entries.below))
-      ∙ ap (Track (track_tree g t) t.hide) (tracks_of-agree ts below.1)
+      ap (λ tree. Track tree (hide_of t) (tracks_of f ts)) (track_tree-agree t below.0)
+      ∙ ap (Track (track_tree g t) (hide_of t)) (tracks_of-agree ts below.1)
 
   body_tree-agree : (body : Body) → IsBodyBelow count body → body_tree f body ≡ body_tree g body
   body_tree-agree (Source source kind frames) below = refl
@@ -135,7 +142,7 @@ module _ (count : ℕ) (f g : ℕ → ℕ) (agree : Agree count f g) where
   tracks_depth-agree : (tracks : List TrackOf) → AllByRecursion (IsTrackBelow count) tracks → tracks_depth f tracks ≡ tracks_depth g tracks
   tracks_depth-agree [] below = refl
   tracks_depth-agree (t ∷ ts) below =
-      omega (arith, entries_depth-agree t.entries (recursion_from_All (IsEntryBelow count) t.entries below.0.entries.below), tracks_depth-agree ts below.1)
+      omega (arith, entries_depth-agree (entries_of t) (recursion_from_All (IsEntryBelow count) (entries_of t) below.0.entries.below), tracks_depth-agree ts below.1)
 
   -- and so does its depth
   pub body_depth-agree : (body : Body) → IsBodyBelow count body → body_depth f body ≡ body_depth g body

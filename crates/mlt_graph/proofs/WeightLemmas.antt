@@ -11,9 +11,10 @@ use Rattle.mlt_tree.specs.declared.node.Body.{Body}
 use Rattle.mlt_tree.specs.declared.node.Body.TheVariants.{Source, Entries, Tractor}
 use Rattle.mlt_tree.specs.declared.node.Node.{Node}
 use Rattle.mlt_tree.specs.declared.node.Track.{Track as TrackOf}
+use Rattle.mlt_tree.specs.declared.node.Track.TheVariants.{Playlist, Half}
 use Rattle.mlt_tree.specs.Sizes.{weight_in, ops_in, weight_of_rows, ops_of_rows, tracks_in}
 use Rattle.mlt_tree.specs.Tree.{Tree, Parts, End, Then, Seq}
-use Rattle.mlt_tree.specs.Units.{entry_tree, parts_of, track_tree, tracks_of, body_tree, node_tree, tree_of, IsEntryBelow, IsTrackBelow, IsBodyBelow, IsGraph}
+use Rattle.mlt_tree.specs.Units.{entry_tree, entries_of, parts_of, track_tree, tracks_of, body_tree, node_tree, tree_of, IsEntryBelow, IsTrackBelow, IsBodyBelow, IsGraph}
 use Rattle.mlt_graph.specs.declared.weight.Weight.{Weight}
 use Rattle.mlt_graph.specs.Sizes.{kept}
 use Rattle.mlt_graph.specs.Weights.{weight_of, weightless, single, with_filters, entry_weight, heavier, entries_weight, together, track_weight, tracks_weight, choosing, body_weight, node_weight, Weighs}
@@ -72,9 +73,11 @@ module _ (table : List Weight) (units : ℕ → Tree) (count : ℕ) (weighs : We
       ∙ same_weight _ _ (omega (arith, weight_in-some (parts_of units es))) (omega (arith, ops_in-some (parts_of units es)))
 
   track_weight-is : (track : TrackOf) → IsTrackBelow count track → track_weight table track ≡ weight_of (track_tree units track)
-  track_weight-is track below =
-      ap (with_filters (length track.filters)) (entries_weight-is track.entries below.entries.below)
+  track_weight-is (Playlist entries filters hide) below =
+      ap (with_filters (length filters)) (entries_weight-is entries below.entries.below)
       ∙ same_weight _ _ (omega arith) (omega arith)
+  track_weight-is (Half entry) below =
+      entry_weight-is entry (recursion_from_All (IsEntryBelow count) (entry ∷ []) below.entries.below).0
 
   -- the weight of tracks
   abbrev rows_weight : List TrackOf → Weight
@@ -125,8 +128,9 @@ body_below-more a b (Source source kind frames) more below = tt
 body_below-more a b (Entries entries) more below =
     record { below = entries_below-more a b entries more below.below; ranges = below.ranges }
 body_below-more a b (Tractor tracks plants) more below = record {
+  some = below.some;
   tracks_below = All-weaker (IsTrackBelow a) (IsTrackBelow b) (λ track h. record {
-    entries = record { below = entries_below-more a b track.entries more h.entries.below; ranges = h.entries.ranges };
+    entries = record { below = entries_below-more a b (entries_of track) more h.entries.below; ranges = h.entries.ranges };
     filters = h.filters;
   }) tracks below.tracks_below;
   ranges = below.ranges;

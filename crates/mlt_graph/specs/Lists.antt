@@ -5,12 +5,13 @@ use Rattle.mlt_tree.specs.declared.node.Body.{Body}
 use Rattle.mlt_tree.specs.declared.node.Body.TheVariants.{Source, Entries, Tractor}
 use Rattle.mlt_tree.specs.declared.node.Node.{Node}
 use Rattle.mlt_tree.specs.Ranges.{frames}
+use Rattle.mlt_tree.specs.Units.{entries_of}
 
 -- the lists of what a unit is made of: none of a source, one of entries, one for each track of a tractor
 abbrev pub lists_in : Body → List (List Entry)
 lists_in (Source source kind count) = []
 lists_in (Entries entries) = entries ∷ []
-lists_in (Tractor tracks plants) = map (λ track. track.entries) tracks
+lists_in (Tractor tracks plants) = map entries_of tracks
 
 -- the lists of a numbered unit; a unit that isn't there has none
 abbrev pub lists_of : List Node → ℕ → List (List Entry)

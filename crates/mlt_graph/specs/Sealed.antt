@@ -1,10 +1,11 @@
 -- What is played: units, and which of them.
-use Rattle.std.specs.Prelude.{◌≡◌, ◌≤◌, ◌<◌, ◌^◌, ℕ, List, length}
+use Rattle.std.specs.Prelude.{◌≡◌, ◌≤◌, ◌<◌, ◌^◌, ℕ, List, length, All}
 use Rattle.mlt_base.specs.declared.limits.TheConstants.{MOST_DEPTH, MOST_WEIGHT}
 use Rattle.mlt_tree.specs.declared.node.Node.{Node}
 use Rattle.mlt_tree.specs.Sizes.{need, weight, ops}
 use Rattle.mlt_tree.specs.Tree.{Tree, len}
 use Rattle.mlt_tree.specs.Units.{tree_of, depth_of, IsGraph}
+use Rattle.mlt_graph.specs.Graph.{HasFewTracks}
 
 pub record Shown : Type 0 where
   pub units : List Node
@@ -14,10 +15,12 @@ pub record Shown : Type 0 where
 abbrev pub tree : Shown → Tree
 tree shown = tree_of shown.units shown.top
 
--- it stands for a tree, since units refer to lower-numbered ones, and the one that is played is there
+-- it stands for a tree, since units refer to lower-numbered ones, and the one that is played is there; tractors
+-- have only so many tracks
 pub record IsSealed (shown : Shown) : Type 0 where
   pub graph : IsGraph shown.units
   pub top : shown.top < length shown.units
+  pub tracks : All (λ node. HasFewTracks node.body) shown.units
 
 -- what else holds of it, with the numbers that are kept of it
 pub record IsKept (shown : Shown) (count buffers operations : ℕ) : Type 0 where

@@ -59,6 +59,10 @@ tractor_size count tracks = record {
   depth = kept (tracks.depth + 1);
 }
 
+-- a mix of two halves
+abbrev pub mix_size : List Size → (a b : Entry) → Size
+mix_size table a b = tractor_size 2 (over_size (entry_size table a) (entry_size table b))
+
 -- the table has the size of each unit
 pub record AreSizes (table : List Size) (units : ℕ → Tree) (depths : ℕ → ℕ) : Type 0 where
   pub each : (unit : ℕ) → unit < length table → slice_index_or table unit nothing ≡ size_of (units unit) (depths unit)

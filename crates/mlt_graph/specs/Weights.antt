@@ -7,6 +7,7 @@ use Rattle.mlt_tree.specs.declared.node.Body.{Body}
 use Rattle.mlt_tree.specs.declared.node.Body.TheVariants.{Source, Entries, Tractor}
 use Rattle.mlt_tree.specs.declared.node.Node.{Node}
 use Rattle.mlt_tree.specs.declared.node.Track.{Track}
+use Rattle.mlt_tree.specs.declared.node.Track.TheVariants.{Playlist, Half}
 use Rattle.mlt_tree.specs.Sizes.{weight, ops}
 use Rattle.mlt_tree.specs.Tree.{Tree}
 use Rattle.mlt_graph.specs.declared.weight.Weight.{Weight}
@@ -44,7 +45,8 @@ abbrev pub together : Weight → Weight → Weight
 together a b = record { weight = kept (a.weight + b.weight); ops = kept (a.ops + b.ops) }
 
 abbrev pub track_weight : List Weight → Track → Weight
-track_weight table track = with_filters (length track.filters) (entries_weight table track.entries)
+track_weight table (Playlist entries filters hide) = with_filters (length filters) (entries_weight table entries)
+track_weight table (Half entry) = entry_weight table entry
 
 abbrev pub tracks_weight : List Weight → List Track → Weight
 tracks_weight table tracks = fold (λ w track. together w (track_weight table track)) weightless tracks

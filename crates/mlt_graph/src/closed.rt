@@ -1,6 +1,7 @@
 //! A track to which nothing is added any more.
 
-ghost use Rattle.std.specs.Prelude.{◌≡◌, map, IfOk};
+ghost use Rattle.std.specs.Prelude.{◌≡◌, map, fold, max, IfOk};
+ghost use Rattle.mlt_tree.specs.Edits.{frames_in};
 ghost use Rattle.mlt_tree.specs.Ranges.{frames};
 ghost use Rattle.mlt_tree.specs.Units.{track_of};
 
@@ -28,6 +29,13 @@ impl Model for Closed {
 }
 
 impl Closed {
+    /// How many frames it has.
+    pub fn frames(&self) -> u32
+        ensures { result ≡ frames_in self.now.entries }
+    {
+        self.list.length()
+    }
+
     /// Its entries, in order.
     pub fn entries(&self) -> &[Entry]
         ensures { result.now ≡ self.now.entries }
@@ -48,11 +56,22 @@ impl Closed {
         } = self;
         let filters = attached_all(alloc, list.length(), filters)?;
         let (entries, starts) = list.into_parts();
-        let track = Track {
+        let track = Track::Playlist {
             entries,
             filters,
             hide,
         };
         Ok((track, starts))
     }
+}
+
+/// How many frames the longest of the tracks has.
+pub(crate) fn longest(tracks: &[Closed]) -> u32
+    ensures { result ≡ fold (λ most track. max most (frames_in track.entries)) 0 tracks.now }
+{
+    let mut most: u32 = 0;
+    for track in tracks {
+        most = most.max(track.frames());
+    }
+    most
 }

@@ -1,26 +1,26 @@
 //! Units that refer to each other.
 
-ghost use Rattle.std.specs.Prelude.{◌≡◌, ◌≤◌, ◌<◌, ◌^◌, ◌⊎◌, ◌↔◌, [], ◌∷◌, ◌++◌, length, All, Err, IfOk, IfErr, OnOk, OnErr};
+ghost use Rattle.std.specs.Prelude.{◌≡◌, ◌≤◌, ◌<◌, ◌^◌, [], ◌∷◌, ◌++◌, length, All, IfOk, OnOk, OnErr};
 ghost use Rattle.mlt_tree.specs.Edits.{frames_in};
-ghost use Rattle.mlt_tree.specs.Ranges.{IsAttached};
+ghost use Rattle.mlt_tree.specs.Ranges.{IsAttached, IsMerge, frames};
 ghost use Rattle.mlt_tree.specs.Tree.{len};
-ghost use Rattle.mlt_tree.specs.Units.{source_unit, list_unit, node_tree, drafts_of, tractor_of, with_filter, with_unit_filter, tree_of, body_depth, depth_of, IsEntryBelow, AreEntriesBelow, IsBodyBelow};
-ghost use Rattle.mlt_graph.specs.declared.fault.GraphFault.TheVariants.{NoProducer, Memory};
-ghost use Rattle.mlt_graph.specs.Graph.{HasLength, HasFewTracks};
+ghost use Rattle.mlt_tree.specs.Units.{source_unit, list_unit, mix_unit, node_tree, drafts_of, tractor_of, with_filter, with_unit_filter, with_mixer, tree_of, body_depth, depth_of, IsEntryBelow, AreEntriesBelow, IsBodyBelow, IsMix};
+ghost use Rattle.mlt_graph.specs.Graph.{HasLength, HasFewTracks, tractor_fault, FailsBy};
 ghost use Rattle.mlt_graph.specs.Lists.{starts_in};
 ghost use Rattle.mlt_graph.specs.Seal.{seal};
 ghost use Rattle.mlt_graph.specs.Sizes.{size_of};
 
 use crate::fault::GraphFault;
 use crate::level::Level;
+use crate::mix::{both_starts, halves, push_mixer, size_of_mix};
 use crate::sealed::Sealed;
 use crate::size::Size;
 use crate::weight::{Weight, weight_of};
 use mlt_base::limits::{MOST_DEPTH, MOST_WEIGHT};
 use mlt_base::{SourceNo, UnitId};
 use mlt_index::Starts;
-use mlt_playlist::{EntryList, starts_of};
-use mlt_tree::{Attached, Body, FilterList, ItemList, Node, SourceKind};
+use mlt_playlist::{EntryList, MixParts, starts_of};
+use mlt_tree::{Attached, Body, FilterList, ItemList, MergeSpec, Node, SourceKind};
 use std::alloc::{AllocError, Global};
 use std::marker::Model;
 
@@ -120,19 +120,20 @@ impl Graph {
     /// Adds the tractor of a level's tracks, which drops the level where it is refused. After a refusal
     /// the graph is as it was.
     ///
-    /// `NoProducer` comes where no track has a frame, else `Memory` may.
+    /// The plants are looked at in their order: `BadTrack` comes where the track of one isn't there, or the
+    /// first or the second of a merge, and `SameTrack` where both are one track. `NoProducer` comes next,
+    /// where no track has a frame, else `Memory` may.
     pub fn add_tractor(&mut self, level: Level) -> Result<UnitId, GraphFault>
         requires { All (λ draft. All (IsEntryBelow (length self.old)) draft.entries) (drafts_of level) }
         ensures ok { OnOk result (self.new ≡ self.old ++ tractor_of level ∷ []) }
         ensures id { IfOk result (λ id. id.0 ≡ length self.old) }
         ensures err { OnErr result (self.new ≡ self.old) }
-        ensures empty { (result ≡ Err NoProducer) ↔ (len (node_tree (tree_of self.old) (tractor_of level)) ≡ 0) }
-        ensures fault { IfErr result (λ fault. (fault ≡ NoProducer) ⊎ (fault ≡ Memory)) }
+        ensures fault { FailsBy (tractor_fault level (len (node_tree (tree_of self.old) (tractor_of level)))) result }
     {
         let count = level.tracks();
         let size = level.size(&self.sizes);
-        if size.length == 0 {
-            return Err(GraphFault::NoProducer);
+        if let Some(fault) = level.fault(size.length) {
+            return Err(fault);
         }
         let alloc = *self.nodes.allocator();
         let Ok((body, starts)) = level.into_body(alloc) else {
@@ -142,6 +143,41 @@ impl Graph {
             Ok(id) => Ok(id),
             Err(_) => Err(GraphFault::Memory),
         }
+    }
+
+    /// Adds the unit of a mix: its two parts over each other, of which no merge makes one yet. After want of
+    /// memory the graph is as it was.
+    pub fn add_mix(&mut self, parts: MixParts) -> Result<UnitId, AllocError>
+        requires below { AreEntriesBelow (length self.old) (parts.a ∷ parts.b ∷ []) }
+        requires frames { (frames parts.a ≡ parts.frames) × (frames parts.b ≡ parts.frames) }
+        requires some { 1 ≤ parts.frames }
+        requires short { parts.frames < 2 ^ 31 }
+        ensures ok { OnOk result (self.new ≡ self.old ++ mix_unit parts.a parts.b ∷ []) }
+        ensures id { IfOk result (λ id. id.0 ≡ length self.old) }
+        ensures err { OnErr result (self.new ≡ self.old) }
+    {
+        let MixParts { a, b, frames } = parts;
+        let size = size_of_mix(&self.sizes, &a, &b);
+        let alloc = *self.nodes.allocator();
+        let starts = both_starts(alloc, frames)?;
+        let body = Body::Tractor {
+            tracks: halves(alloc, a, b)?,
+            plants: ItemList::new(alloc),
+        };
+        self.add(body, size, starts)
+    }
+
+    /// Adds a merge to a mix, over all its frames, which acts after those that it has. After want of memory the
+    /// graph is as it was.
+    pub fn add_mixer(&mut self, unit: UnitId, spec: MergeSpec) -> Result<(), AllocError>
+        requires mix { IsMix self.old unit.0 }
+        requires range { IsMerge spec }
+        ensures ok { OnOk result (self.new ≡ with_mixer self.old unit.0 spec) }
+        ensures err { OnErr result (self.new ≡ self.old) }
+    {
+        let frames = self.length_of(unit);
+        push_mixer(&mut self.nodes[unit.0 as usize], spec, frames)?;
+        Ok(())
     }
 
     /// Adds a filter to a unit, which acts after those that it has, in the unit's own positions. After want

@@ -1,7 +1,7 @@
 //! Units that refer to each other, the tracks of a tractor before it is made, and what is played in the end.
 //!
-//! A [`Graph`] grows by one unit at a time, or by a filter on one of them, and is sealed when all is there: a
-//! [`Sealed`] stands for one tree, whose length and needs are known. A [`Show`] is that, with the size and
+//! A [`Graph`] grows by one unit at a time, or by a filter or a merge on one of them, and is sealed when all is
+//! there: a [`Sealed`] stands for one tree, whose length and needs are known. A [`Show`] is that, with the size and
 //! rate of the frames and where they go.
 //!
 //! Below stand `mlt_tree`, whose `specs/Units` says which tree a unit stands for, `mlt_playlist`, whose
@@ -14,6 +14,8 @@ mod closed;
 pub mod fault;
 pub mod graph;
 pub mod level;
+mod misplaced;
+mod mix;
 mod pending;
 pub mod sealed;
 pub mod show;

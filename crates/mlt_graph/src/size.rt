@@ -64,7 +64,7 @@ impl Size {
     }
 
     /// An entry, whose unit is in the table.
-    fn of_entry(table: &[Size], entry: &Entry) -> Size
+    pub fn of_entry(table: &[Size], entry: &Entry) -> Size
         requires below { IsEntryBelow (length table.now) entry.now }
         requires range { IsEntry entry.now }
         ensures { result ≡ entry_size table.now entry.now }

@@ -1,15 +1,15 @@
 //! A graph as its caller sees it.
 
-ghost use Rattle.std.specs.Prelude.{◌≡◌, ◌+◌, ◌-◌, ◌≤◌, ◌<◌, ◌^◌, ℕ, length, All, IfOk};
+ghost use Rattle.std.specs.Prelude.{◌≡◌, ◌+◌, ◌-◌, ◌≤◌, ◌<◌, ◌^◌, ℕ, [], ◌∷◌, length, All, IfOk, OnOk};
 ghost use Rattle.mlt_base.specs.Span.{IsSpan};
 ghost use Rattle.mlt_tree.specs.Edits.{frames_in};
 ghost use Rattle.mlt_tree.specs.Ranges.{IsAttached};
-ghost use Rattle.mlt_tree.specs.Units.{drafts_of, IsEntryBelow, AreEntriesBelow};
+ghost use Rattle.mlt_tree.specs.Units.{drafts_of, IsEntryBelow, AreEntriesBelow, IsMix};
 
 use crate::{Format, Graph, GraphFault, Level, Output, Pix, unit_of};
 use mlt_base::{Pos, Profile, Rate, SourceNo, Span, Text, UnitId};
-use mlt_playlist::EntryList;
-use mlt_tree::{Attached, Entry, FilterList, FilterSpec, ItemList, SourceKind};
+use mlt_playlist::{EntryList, MixParts};
+use mlt_tree::{Attached, Entry, FilterList, FilterSpec, Hide, ItemList, MergeSpec, SourceKind};
 use std::alloc::{AllocError, Global};
 use std::test::Fail;
 
@@ -103,6 +103,14 @@ fn nest(graph: &mut Graph, alloc: Global, unit: UnitId, count: u32) -> Result<Un
     Ok(unit)
 }
 
+/// The length of what is played, the buffers that it needs, and its operations.
+fn numbers_of(graph: Graph, top: UnitId) -> Result<(u32, u32, u32), GraphFault>
+    requires { top.0 < length graph }
+{
+    let sealed = graph.seal(top)?;
+    Ok((sealed.length(), sealed.need(), sealed.ops()))
+}
+
 /// A tractor of a source of three frames in so many lists, of which the last gets a filter at the end.
 fn tell(alloc: Global, lists: u32) -> Result<Told, AllocError> {
     let mut graph = Graph::new(alloc);
@@ -119,10 +127,7 @@ fn tell(alloc: Global, lists: u32) -> Result<Told, AllocError> {
         graph.length_of(list),
         graph.length_of(tractor),
     );
-    let sealed = match graph.seal(tractor) {
-        Ok(sealed) => Ok((sealed.length(), sealed.need(), sealed.ops())),
-        Err(fault) => Err(fault),
-    };
+    let sealed = numbers_of(graph, tractor);
     Ok(Told {
         empty,
         lengths,
@@ -146,6 +151,103 @@ fn seals_sixteen_deep_at_most(rt: HostRuntime) -> Result<(), Fail> {
         tell(rt.alloc(), 16)?.sealed,
         Err(GraphFault::TooDeep { depth: 17 })
     );
+    Ok(())
+}
+
+/// Begins a track without sound, of the first frames of a unit.
+fn add_track(level: &mut Level, unit: UnitId, frames: u32) -> Result<(), AllocError>
+    requires { 1 ≤ frames }
+    ensures { OnOk result ((count : ℕ) → unit.0 < count → All (λ draft. All (IsEntryBelow count) draft.entries) (drafts_of level.old) → All (λ draft. All (IsEntryBelow count) draft.entries) (drafts_of level.new)) }
+{
+    let hide = Hide {
+        video: false,
+        audio: true,
+    };
+    if level.new_track(hide).is_err() {
+        return Err(AllocError);
+    }
+    if level.last().append_io(unit, frames, 0, frames - 1).is_err() {
+        return Err(AllocError);
+    }
+    Ok(())
+}
+
+/// Two tracks of a source of three frames, with a filter on a track and a merge of two.
+fn tell_planted(
+    alloc: Global,
+    track: u32,
+    a: u32,
+    b: u32,
+) -> Result<Result<(u32, u32, u32), GraphFault>, AllocError> {
+    let mut graph = Graph::new(alloc);
+    let source = graph.add_source(SourceNo(0), SourceKind::Colour, 3)?;
+    let mut level = level_of(alloc, source, 2)?;
+    add_track(&mut level, source, 3)?;
+    level.plant_filter(track, FilterSpec::Invert, 0, None)?;
+    level.plant_merge(a, b, MergeSpec::Mix, 1, Some(2))?;
+    match graph.add_tractor(level) {
+        Ok(tractor) => Ok(numbers_of(graph, tractor)),
+        Err(fault) => Ok(Err(fault)),
+    }
+}
+
+#[test]
+fn plants_on_tracks_that_are_there(rt: HostRuntime) -> Result<(), Fail> {
+    let off = |plant, no| {
+        Err(GraphFault::BadTrack {
+            plant,
+            no,
+            tracks: 2,
+        })
+    };
+    let rows = [
+        ((0, 0, 1), Ok((3, 3, 6))),
+        ((2, 0, 0), off(0, 2)),
+        ((1, 3, 4), off(1, 3)),
+        ((1, 1, 2), off(1, 2)),
+        ((1, 1, 1), Err(GraphFault::SameTrack { plant: 1, no: 1 })),
+    ];
+    for ((track, a, b), told) in rows {
+        assert_eq!(rt;
+            tell_planted(rt.alloc(), track, a, b)?,
+            told,
+            "{track} {a} {b}"
+        );
+    }
+    Ok(())
+}
+
+/// A mix of a gap and the first frames of a unit.
+fn mix_of(graph: &mut Graph, alloc: Global, unit: UnitId, frames: u32) -> Result<UnitId, AllocError>
+    requires there { unit.0 < length graph.old }
+    requires some { 1 ≤ frames }
+    requires short { frames < 2 ^ 31 }
+    ensures { IfOk result (λ id. IsMix graph.new id.0) }
+{
+    let b = Entry::Clip {
+        unit,
+        span: first_frames(frames),
+        filters: FilterList::new(alloc),
+    };
+    graph.add_mix(MixParts {
+        a: Entry::Gap { frames },
+        b,
+        frames,
+    })
+}
+
+/// A mix of a source of two frames with a merge.
+fn tell_mix(alloc: Global) -> Result<Result<(u32, u32, u32), GraphFault>, AllocError> {
+    let mut graph = Graph::new(alloc);
+    let source = graph.add_source(SourceNo(0), SourceKind::Colour, 2)?;
+    let mix = mix_of(&mut graph, alloc, source, 2)?;
+    graph.add_mixer(mix, MergeSpec::Mix)?;
+    Ok(numbers_of(graph, mix))
+}
+
+#[test]
+fn seals_a_mix(rt: HostRuntime) -> Result<(), Fail> {
+    assert_eq!(rt; tell_mix(rt.alloc())?, Ok((2, 3, 4)));
     Ok(())
 }
 

@@ -1,7 +1,7 @@
 //! How much there is in units, which is worked out when they are sealed.
 
 ghost use Rattle.std.specs.Prelude.{◌≡◌, ◌<◌, length, All};
-ghost use Rattle.mlt_tree.specs.Units.{AreEntriesBelow, IsBodyBelow, IsEntryBelow, IsGraph, IsTrackBelow, tree_of};
+ghost use Rattle.mlt_tree.specs.Units.{entries_of, AreEntriesBelow, IsBodyBelow, IsEntryBelow, IsGraph, IsTrackBelow, tree_of};
 ghost use Rattle.mlt_graph.specs.Sizes.{kept};
 ghost use Rattle.mlt_graph.specs.Weights.{weightless, single, with_filters, entry_weight, heavier, entries_weight, together, track_weight, tracks_weight, choosing, body_weight, node_weight, weight_of, Weighs};
 
@@ -98,15 +98,22 @@ impl Weight {
 
     /// A track, whose units are in the table.
     fn of_track(table: &[Weight], track: &Track) -> Weight
-        requires { All (IsEntryBelow (length table.now)) track.now.entries }
+        requires { All (IsEntryBelow (length table.now)) (entries_of track.now) }
         ensures { result ≡ track_weight table.now track.now }
     {
-        Weight::of_entries(table, track.entries.as_slice()).with_filters(track.filters.count())
+        match track {
+            Track::Playlist {
+                entries,
+                filters,
+                ..
+            } => Weight::of_entries(table, entries.as_slice()).with_filters(filters.count()),
+            Track::Half(entry) => Weight::of_entry(table, entry),
+        }
     }
 
     /// Tracks, over each other.
     fn of_tracks(table: &[Weight], tracks: &[Track]) -> Weight
-        requires { All (λ track. All (IsEntryBelow (length table.now)) track.entries) tracks.now }
+        requires { All (λ track. All (IsEntryBelow (length table.now)) (entries_of track)) tracks.now }
         ensures { result ≡ tracks_weight table.now tracks.now }
     {
         let mut weight = Weight::none();

@@ -7,6 +7,7 @@
 ghost use Rattle.std.specs.Prelude.{◌≡◌, ℕ, ◌+◌, ◌-◌, ◌*◌, ◌/◌, ◌%◌, ◌<◌, ◌≤◌, length, slice_index};
 ghost use Rattle.mlt_base.specs.Mixing.{table};
 ghost use Rattle.mlt_base.specs.Fitting.{along, next, weighed, across, down, stretched_at};
+ghost use Rattle.mlt_base.specs.GeometryView.{IsPlacement};
 ghost use Rattle.mlt_image.specs.Kept.{channels, across_at};
 
 use mlt_base::Geometry;
@@ -121,8 +122,8 @@ fn down_one(share: u32, top: u32, bottom: u32) -> u8
     ((mixed + 2147483648) / 4294967296) as u8
 }
 
-/// The pixel at column `x` of row `y` of a source stretched to a geometry's width and height. The source has
-/// `width` by `height` pixels, each 1 to 4096, and its slice four bytes for each.
+/// The pixel at column `x` of row `y` of a source stretched to a geometry's width and height, each 1 to 4096. The
+/// source has `width` by `height` pixels, each 1 to 4096, and its slice four bytes for each.
 pub fn stretch_at(
     src: &[u8],
     width: u32,
@@ -136,6 +137,7 @@ pub fn stretch_at(
     requires height_from { 1 ≤ height }
     requires height_to { height ≤ 4096 }
     requires sized { length src.now ≡ width * height * 4 }
+    requires range { IsPlacement geometry.now }
     requires column { x < geometry.now.width }
     requires row { y < geometry.now.height }
     ensures { result ≡ channels (stretched_at (record { width = width; height = height; pixels = src.now }) geometry.now.width geometry.now.height x y) }

@@ -1,6 +1,11 @@
 mod Both
+mod Planted
+mod Stacked
 mod Meant
 mod Loaded
 mod Counted
 mod Ranged
+mod UnitTrees
 mod Walked
+mod Having
+mod Plans

@@ -1,24 +1,23 @@
 -- The operations of a tree make what it means.
-use Rattle.std.proofs.Common.{ℕ, ◌≡◌, ◌+◌, ◌-◌, ◌&&◌, Bool, true, false, cond, ltb, List, [], ◌∷◌, ◌++◌, fold, Option, None, Some, refl, sym, ap, subst, ◌∙◌}
+use Rattle.std.proofs.Common.{ℕ, ◌≡◌, ◌+◌, ◌-◌, ◌&&◌, Bool, true, false, cond, ltb, List, [], ◌∷◌, ◌++◌, length, fold, Option, None, Some, refl, sym, ap, subst, ◌∙◌, arith}
 use Rattle.std.proofs.lemmas.Grind.{fold-append}
-use Rattle.std.specs.List.{flat_map}
+use Rattle.std.specs.List.{AllByRecursion, flat_map, list_any}
 use Rattle.mlt_frame.specs.declared.op.Op.{Op}
 use Rattle.mlt_frame.specs.declared.op.Op.TheVariants.{Filter}
 use Rattle.mlt_frame.specs.Registers.{apply, regs}
 use Rattle.mlt_tree.specs.declared.filter.FilterStep.{FilterStep}
 use Rattle.mlt_tree.specs.declared.tree.Attached.{Attached}
-use Rattle.mlt_tree.specs.declared.tree.Hide.{Hide}
+use Rattle.mlt_tree.specs.declared.tree.Plant.{Plant}
 use Rattle.mlt_tree.specs.Acting.{holds, passed, filter_step}
 use Rattle.mlt_tree.specs.Meaning.{Matter, mean, mean_in, rows, shown, planted, filtered_by}
 use Rattle.mlt_tree.specs.Medium.{Medium, makes, hides}
+use Rattle.mlt_tree.specs.Sizes.{tracks_in}
 use Rattle.mlt_tree.specs.Tree.{Tree, Parts, Tracks, Src, Blank, Part, Seq, With, Rows, End, Then, NoTrack, Track, len}
-use Rattle.mlt_start.specs.Code.{code, code_in, rows_code, filter_ops, with_filters, load_of, or_absent}
-use Rattle.mlt_tree.specs.Unbuilt.{IsUnplanted, AreUnplantedParts, AreUnplantedTracks}
+use Rattle.mlt_tree.specs.Units.{IsOnTracks}
+use Rattle.mlt_start.specs.Code.{acts, code, code_in, rows_code, planted_rows, filter_ops, with_filters, load_of, or_absent}
 use Rattle.mlt_start.proofs.Both.{Both, both-cond, both-or_under, both-map}
-
--- operations add a register with this
-abbrev pub Makes : {A : Type 0} → Matter A → List Op → A → Type 0
-Makes {A} m ops x = (rest : List (Option A)) → regs m rest ops ≡ Some x ∷ rest
+use Rattle.mlt_start.proofs.Planted.{IsPlanted, ArePlantedParts, ArePlantedTracks, still-all}
+use Rattle.mlt_start.proofs.Stacked.{Makes, AllMake, planted-make}
 
 module _ {A : Type 0} (m : Matter A) (n : ℕ) where
   regs-filter : (t : Bool) (step : FilterStep) (x : A) (rest : List (Option A)) (more : List Op) → regs m (Some x ∷ rest) (cond t (Filter 0 step ∷ []) [] ++ more) ≡ regs m (Some (cond t (m.filter step x) x) ∷ rest) more
@@ -34,35 +33,51 @@ module _ {A : Type 0} (m : Matter A) (n : ℕ) where
   makes-filters filters ops x made rest =
       fold-append (apply m) rest ops (flat_map (filter_ops n) filters) ∙ ap (λ rs. regs m rs (flat_map (filter_ops n) filters)) (made rest) ∙ regs-filters filters x rest
 
+-- as many rows as tracks
+pub length-rows : (v : Medium) (tracks : Tracks) (n : ℕ) → length (rows_code v tracks n) ≡ tracks_in tracks
+length-rows v NoTrack n = refl
+length-rows v (Track t hide tracks) n = omega (arith, length-rows v tracks n)
+
 module _ {A : Type 0} (v : Medium) (m : Matter A) where
+  -- of rows without plants the highest shows
+  shown-make : (cs : List (Option (List Op))) (rs : List (Option A)) → AllMake m cs rs → Both (Makes m) (shown cs) (shown rs)
+  shown-make [] [] made = tt
+  shown-make [] (r ∷ rs) made = absurd made
+  shown-make (c ∷ cs) [] made = absurd made
+  shown-make (c ∷ cs) (r ∷ rs) made =
+      both-or_under (Makes m) (shown cs) c (shown rs) r (shown-make cs rs made.1) made.0
+
+  -- by whether a plant acts
+  rows-make : (cs : List (Option (List Op))) (rs : List (Option A)) (plants : List Plant) (n : ℕ) → AllMake m cs rs → AllByRecursion (IsOnTracks (length cs)) plants
+      → Both (Makes m) (cond (list_any (acts v n) plants) (planted_rows v n plants cs) (shown cs)) (shown (fold (planted v m n) rs plants))
+  rows-make cs rs plants n made on = by (list_any (acts v n) plants) refl where
+    by : (t : Bool) → list_any (acts v n) plants ≡ t → Both (Makes m) (cond t (planted_rows v n plants cs) (shown cs)) (shown (fold (planted v m n) rs plants))
+    by true is = planted-make v m n cs rs plants made on
+    by false is = subst (λ x. Both (Makes m) (shown cs) (shown x)) (sym (still-all v m n plants rs is)) (shown-make cs rs made)
+
   mutual
     -- a tree that has something has operations that make it, and one that has nothing has none
-    pub code-makes : (t : Tree) → IsUnplanted t → (n : ℕ) → Both (Makes m) (code v t n) (mean v m t n)
-    code-makes (Src source kind frames) plain n =
+    pub code-makes : (t : Tree) → IsPlanted t → (n : ℕ) → Both (Makes m) (code v t n) (mean v m t n)
+    code-makes (Src source kind frames) is n =
         both-cond (Makes m) (makes v kind && ltb n frames) (Some (load_of source n ∷ [])) None (Some (m.source source n)) None (λ rest. refl) tt
-    code-makes (Blank frames) plain n = tt
-    code-makes (Part t first last) plain n =
-        both-cond (Makes m) (ltb n (last + 1 - first)) (code v t (first + n)) None (mean v m t (first + n)) None (code-makes t plain (first + n)) tt
-    code-makes (Seq parts) plain n = code_in-makes parts plain n
-    code-makes (With t filters) plain n =
-        both-map (Makes m) (Makes m) (with_filters n filters) (λ x. fold (filtered_by m n) x filters) (makes-filters m n filters) (code v t n) (mean v m t n) (code-makes t plain n)
-    code-makes (Rows tracks plants) plain n =
-        subst (λ ps. Both (Makes m) (shown (rows_code v tracks n)) (shown (fold (planted v m n) (rows v m tracks n) ps))) (sym plain.1) (rows-make tracks plain.0 n)
+    code-makes (Blank frames) is n = tt
+    code-makes (Part t first last) is n =
+        both-cond (Makes m) (ltb n (last + 1 - first)) (code v t (first + n)) None (mean v m t (first + n)) None (code-makes t is (first + n)) tt
+    code-makes (Seq parts) is n = code_in-makes parts is n
+    code-makes (With t filters) is n =
+        both-map (Makes m) (Makes m) (with_filters n filters) (λ x. fold (filtered_by m n) x filters) (makes-filters m n filters) (code v t n) (mean v m t n) (code-makes t is n)
+    code-makes (Rows tracks plants) is n =
+        rows-make (rows_code v tracks n) (rows v m tracks n) plants n (all-make tracks is.1 n) (subst (λ count. AllByRecursion (IsOnTracks count) plants) (sym (length-rows v tracks n)) is.2)
 
-    code_in-makes : (parts : Parts) → AreUnplantedParts parts → (n : ℕ) → Both (Makes m) (code_in v parts n) (mean_in v m parts n)
-    code_in-makes End plain n = tt
-    code_in-makes (Then t parts) plain n =
-        both-cond (Makes m) (ltb n (len t)) (code v t n) (code_in v parts (n - len t)) (mean v m t n) (mean_in v m parts (n - len t)) (code-makes t plain.0 n) (code_in-makes parts plain.1 (n - len t))
+    code_in-makes : (parts : Parts) → ArePlantedParts parts → (n : ℕ) → Both (Makes m) (code_in v parts n) (mean_in v m parts n)
+    code_in-makes End is n = tt
+    code_in-makes (Then t parts) is n =
+        both-cond (Makes m) (ltb n (len t)) (code v t n) (code_in v parts (n - len t)) (mean v m t n) (mean_in v m parts (n - len t)) (code-makes t is.0 n) (code_in-makes parts is.1 (n - len t))
 
-    rows-make : (tracks : Tracks) → AreUnplantedTracks tracks → (n : ℕ) → Both (Makes m) (shown (rows_code v tracks n)) (shown (rows v m tracks n))
-    rows-make NoTrack plain n = tt
-    rows-make (Track t hide tracks) plain n =
-        both-or_under (Makes m) (shown (rows_code v tracks n)) (cond (hides v hide) None (code v t n)) (shown (rows v m tracks n)) (cond (hides v hide) None (mean v m t n)) (rows-make tracks plain.1 n) (both-cond (Makes m) (hides v hide) None (code v t n) None (mean v m t n) tt (code-makes t plain.0 n))
-
-  -- of one track
-  pub row-makes : (t : Tree) (hide : Hide) → IsUnplanted t → (n : ℕ) → Both (Makes m) (cond (hides v hide) None (code v t n)) (cond (hides v hide) None (mean v m t n))
-  row-makes t hide plain n =
-      both-cond (Makes m) (hides v hide) None (code v t n) None (mean v m t n) tt (code-makes t plain n)
+    pub all-make : (tracks : Tracks) → ArePlantedTracks tracks → (n : ℕ) → AllMake m (rows_code v tracks n) (rows v m tracks n)
+    all-make NoTrack is n = tt
+    all-make (Track t hide tracks) is n =
+        (both-cond (Makes m) (hides v hide) None (code v t n) None (mean v m t n) tt (code-makes t is.0 n), all-make tracks is.1 n)
 
   -- one register, be there something or not
   one-register : (c : Option (List Op)) (o : Option A) → Both (Makes m) c o → regs m [] (or_absent c) ≡ o ∷ []
@@ -71,5 +86,5 @@ module _ {A : Type 0} (v : Medium) (m : Matter A) where
   one-register (Some ops) None h = absurd h
   one-register (Some ops) (Some x) h = h []
 
-  pub regs-code : (t : Tree) → IsUnplanted t → (n : ℕ) → regs m [] (or_absent (code v t n)) ≡ mean v m t n ∷ []
-  regs-code t plain n = one-register (code v t n) (mean v m t n) (code-makes t plain n)
+  pub regs-code : (t : Tree) → IsPlanted t → (n : ℕ) → regs m [] (or_absent (code v t n)) ≡ mean v m t n ∷ []
+  regs-code t is n = one-register (code v t n) (mean v m t n) (code-makes t is n)

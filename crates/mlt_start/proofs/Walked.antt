@@ -15,9 +15,9 @@ use Rattle.mlt_tree.specs.Meaning.{or_under, shown}
 use Rattle.mlt_tree.specs.Medium.{Medium}
 use Rattle.mlt_tree.specs.Sizes.{ops, ops_in, ops_of_rows}
 use Rattle.mlt_tree.specs.Tree.{Tree, len}
-use Rattle.mlt_tree.specs.Units.{entry_tree, parts_of, tracks_of, track_tree}
+use Rattle.mlt_tree.specs.Units.{entry_tree, entries_of, parts_of, tracks_of, track_tree}
 use Rattle.mlt_graph.specs.Lists.{lists_in, lists_of, list_of}
-use Rattle.mlt_start.specs.Code.{code, code_in, rows_code, filter_ops, with_filters, or_empty, or_absent}
+use Rattle.mlt_start.specs.Code.{code, code_in, rows_code, filter_ops, with_filters, or_empty}
 use Rattle.mlt_start.specs.Found.{IsListOf, row_code, shown_code}
 use Rattle.mlt_start.specs.Pushed.{IsAbove, IsPushed}
 use Rattle.mlt_start.proofs.Counted.{Where, Few}
@@ -135,11 +135,10 @@ module _ (v : Medium) (units : ℕ → Tree) (nodes : List Node) (unit list : �
 -- ---- tracks
 
 -- the entries of a track are its list
-pub row-list : (nodes : List Node) (unit row : ℕ) (tracks : List Track) (track : Track) → lists_of nodes unit ≡ map (λ (t : Track). t.entries) tracks → row < length tracks → track ≡ get_or tracks row track
-    → IsListOf nodes unit row track.entries
+pub row-list : (nodes : List Node) (unit row : ℕ) (tracks : List Track) (track : Track) → lists_of nodes unit ≡ map entries_of tracks → row < length tracks → track ≡ get_or tracks row track → IsListOf nodes unit row (entries_of track)
 row-list nodes unit row tracks track lists there at = record {
-  there = omega (arith, there, ap length lists, length-map tracks (λ (t : Track). t.entries));
-  are = ap (λ ls. get_or ls row []) lists ∙ get_or-map (λ (t : Track). t.entries) tracks row track [] there ∙ ap (λ (t : Track). t.entries) (sym at);
+  there = omega (arith, there, ap length lists, length-map tracks entries_of);
+  are = ap (λ ls. get_or ls row []) lists ∙ get_or-map entries_of tracks row track [] there ∙ ap entries_of (sym at);
 }
 
 -- a track has no more operations than all of them
@@ -158,7 +157,7 @@ module _ (v : Medium) (units : ℕ → Tree) (n : ℕ) where
   under-some rows row x h = rw h refl
 
   -- what the tracks have from one on all of them have
-  rows-under : (tracks : List Track) (i : ℕ) (ops : List Op) → shown_code v units n (drop i tracks) ≡ Some ops → shown_code v units n tracks ≡ Some ops
+  pub rows-under : (tracks : List Track) (i : ℕ) (ops : List Op) → shown_code v units n (drop i tracks) ≡ Some ops → shown_code v units n tracks ≡ Some ops
   rows-under tracks zero ops h = h
   rows-under [] (suc i) ops h = h
   rows-under (track ∷ tracks) (suc i) ops h =
@@ -176,35 +175,6 @@ module _ (v : Medium) (units : ℕ → Tree) (n : ℕ) where
     by (Some ops) has pushed =
         let all = rows-under tracks i ops (row-more tracks i track h at ∙ ap (λ o. or_under o (row_code v units n track)) above ∙ has) in
         subst (λ c. IsPushed c old new true) (sym all) (record { above = pushed.above; something = refl })
-
-  -- a track that has nothing, where those above it have nothing
-  pub row-none : (tracks : List Track) (i : ℕ) (track : Track) (old new : Stack) (r : Bool) → i < length tracks → track ≡ get_or tracks i track → shown_code v units n (drop (i + 1) tracks) ≡ None → r ≡ false
-      → IsPushed (row_code v units n track) old new r → (shown_code v units n (drop i tracks) ≡ None) × (new.ops ≡ old.ops) × (room new ≡ room old)
-  row-none tracks i track old new r h at above is pushed = by (row_code v units n track) refl pushed where
-    clash : false ≡ true → ⊥
-    clash e = cc
-
-    by : (c : Option (List Op)) → row_code v units n track ≡ c → IsPushed c old new r → (shown_code v units n (drop i tracks) ≡ None) × (new.ops ≡ old.ops) × (room new ≡ room old)
-    by (Some ops) has pushed = absurd (clash (sym is ∙ pushed.something))
-    by None has pushed =
-        (row-more tracks i track h at ∙ ap (λ o. or_under o (row_code v units n track)) above ∙ has, pushed.above.ops ∙ append-nil old.ops, pushed.above.room)
-
--- ---- one register in any case
-
-pub pushed-absent : (c : Option (List Op)) (old between new : Stack) (r : Bool) → IsPushed c old between r → r ≡ false → new.ops ≡ between.ops ++ or_absent None → room new ≡ room between → IsAbove (or_absent c) old new
-pushed-absent None old between new r first is then same = record {
-  ops = then ∙ ap (λ os. os ++ or_absent None) (first.above.ops ∙ append-nil old.ops);
-  room = same ∙ first.above.room;
-}
-pushed-absent (Some ops) old between new r first is then same = absurd (clash (sym is ∙ first.something)) where
-  clash : false ≡ true → ⊥
-  clash e = cc
-
-pub pushed-all : (c : Option (List Op)) (old new : Stack) (r : Bool) → IsPushed c old new r → r ≡ true → IsAbove (or_absent c) old new
-pushed-all (Some ops) old new r first is = first.above
-pushed-all None old new r first is = absurd (clash (sym is ∙ first.something)) where
-  clash : true ≡ false → ⊥
-  clash e = cc
 
 -- what is pushed on an empty stack is all that is there
 pub alone-above : (pushed : List Op) (old new : Stack) → old.ops ≡ [] → IsAbove pushed old new → new.ops ≡ pushed

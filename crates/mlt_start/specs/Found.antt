@@ -7,7 +7,7 @@ use Rattle.mlt_tree.specs.declared.node.Track.{Track}
 use Rattle.mlt_tree.specs.Meaning.{shown}
 use Rattle.mlt_tree.specs.Medium.{Medium, hides}
 use Rattle.mlt_tree.specs.Tree.{Tree}
-use Rattle.mlt_tree.specs.Units.{track_tree, tracks_of}
+use Rattle.mlt_tree.specs.Units.{track_tree, tracks_of, hide_of}
 use Rattle.mlt_graph.specs.Lists.{lists_of, list_of}
 use Rattle.mlt_start.specs.Code.{code, rows_code}
 
@@ -18,7 +18,7 @@ pub record IsListOf (nodes : List Node) (unit list : ℕ) (entries : List Entry)
 
 -- the operations of a track by itself, where the trees of units are given
 abbrev pub row_code : Medium → (ℕ → Tree) → ℕ → Track → Option (List Op)
-row_code v units n track = if hides v track.hide then None else code v (track_tree units track) n
+row_code v units n track = if hides v (hide_of track) then None else code v (track_tree units track) n
 
 -- those of the highest track that has something
 abbrev pub shown_code : Medium → (ℕ → Tree) → ℕ → List Track → Option (List Op)

@@ -1,12 +1,11 @@
 -- The sources and maps of a tree that operations name.
-use Rattle.std.specs.Prelude.{ℕ, ◌≡◌, true, List, [], All}
+use Rattle.std.specs.Prelude.{ℕ, ◌≡◌, true, All}
 use Rattle.std.specs.List.{Contains}
 use Rattle.mlt_frame.specs.declared.op.Op.{Op}
 use Rattle.mlt_frame.specs.declared.op.Op.TheVariants.{Load, Absent, Filter, Merge, Keep}
-use Rattle.mlt_tree.specs.declared.merge.MergeStep.{MergeStep}
-use Rattle.mlt_tree.specs.declared.merge.MergeStep.TheVariants.{Luma, Composite, Matte, Mix, Sum}
 use Rattle.mlt_tree.specs.declared.tree.SourceKind.{SourceKind}
 use Rattle.mlt_tree.specs.Medium.{Medium, makes}
+use Rattle.mlt_tree.specs.Merges.{map_of}
 use Rattle.mlt_tree.specs.Sources.{numbered, sources_in, maps_in}
 use Rattle.mlt_tree.specs.Tree.{Tree}
 
@@ -14,20 +13,12 @@ use Rattle.mlt_tree.specs.Tree.{Tree}
 abbrev pub IsSource : Medium → Tree → ℕ → Type 0
 IsSource v t source = (kind : SourceKind) × (makes v kind ≡ true) × Contains (sources_in t) (source, kind)
 
--- the maps of a merge
-abbrev pub maps_of_step : MergeStep → List ℕ
-maps_of_step (Luma map softness q) = numbered map
-maps_of_step (Composite geometry) = []
-maps_of_step Matte = []
-maps_of_step (Mix p frames) = []
-maps_of_step Sum = []
-
 -- what an operation names is of these sources and maps
 abbrev pub NamesOnly : (sources maps : ℕ → Type 0) → Op → Type 0
 NamesOnly sources maps (Load source at) = sources source.0
 NamesOnly sources maps Absent = Unit {0}
 NamesOnly sources maps (Filter depth step) = Unit {0}
-NamesOnly sources maps (Merge a b step) = All maps (maps_of_step step)
+NamesOnly sources maps (Merge a b step) = All maps (numbered (map_of step))
 NamesOnly sources maps (Keep row count) = Unit {0}
 
 -- an operation names sources of the medium and maps of the tree alone

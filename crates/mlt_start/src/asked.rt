@@ -1,10 +1,10 @@
 //! The medium that operations are pushed for.
 
 ghost use Rattle.std.specs.Prelude.{◌≡◌};
-ghost use Rattle.mlt_tree.specs.Medium.{makes, hides};
+ghost use Rattle.mlt_tree.specs.Medium.{makes, hides, merges};
 ghost use Rattle.mlt_start.specs.Asked.{medium_of};
 
-use mlt_tree::{Hide, SourceKind};
+use mlt_tree::{Hide, MergeSpec, SourceKind};
 
 /// The medium that is asked for.
 #[derive(Clone, Copy)]
@@ -36,5 +36,21 @@ pub(crate) fn is_hidden(asked: Asked, hide: Hide) -> bool
     match asked {
         Asked::Pictures => hide.video,
         Asked::Sounds => hide.audio,
+    }
+}
+
+/// Whether a merge is one of the medium.
+pub(crate) fn is_merged(asked: Asked, spec: &MergeSpec) -> bool
+    ensures { result ≡ merges (medium_of asked) spec.now }
+{
+    match asked {
+        Asked::Pictures => match spec {
+            MergeSpec::Luma { .. } | MergeSpec::Composite { .. } | MergeSpec::Matte => true,
+            MergeSpec::Mix | MergeSpec::Sum => false,
+        },
+        Asked::Sounds => match spec {
+            MergeSpec::Luma { .. } | MergeSpec::Composite { .. } | MergeSpec::Matte => false,
+            MergeSpec::Mix | MergeSpec::Sum => true,
+        },
     }
 }

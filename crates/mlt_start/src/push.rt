@@ -37,7 +37,7 @@ pub(crate) fn put_source(
 }
 
 /// Whether a position lies in a span.
-fn is_in(span: Span, at: u32) -> bool
+pub(crate) fn is_in(span: Span, at: u32) -> bool
     ensures { result ≡ holds span at }
 {
     span.first.0 <= at && at <= span.last.0

@@ -11,7 +11,6 @@ ghost use Rattle.mlt_tree.specs.Medium.{Pictures, Sounds};
 ghost use Rattle.mlt_tree.specs.Needs.{needs};
 ghost use Rattle.mlt_tree.specs.Sizes.{need, ops as ops_of};
 ghost use Rattle.mlt_tree.specs.Tree.{len};
-ghost use Rattle.mlt_tree.specs.Unbuilt.{IsUnplanted};
 ghost use Rattle.mlt_graph.specs.Sealed.{tree};
 ghost use Rattle.mlt_start.specs.Asked.{medium_of};
 ghost use Rattle.mlt_start.specs.Code.{code, or_absent};
@@ -39,15 +38,13 @@ fn push_all(sealed: &Sealed, asked: Asked, at: u32, stack: &mut OpStack)
 /// Starts the frame of a position: the operations that make its picture and its sound, and the lease that its
 /// bytes go to. It takes no memory and can't be refused.
 ///
-/// Only what shows is pushed: no track that another one covers, no hidden track, and no filter outside its
-/// span. The position is below the length of what is played; each stack is empty, with spare for
-/// [`Sealed::ops`] at least. Nothing is planted on the tracks of what is played. The numbers of what is pushed
-/// are in their ranges.
+/// Only what shows is pushed: no track that another one covers or that goes into none that shows, no hidden
+/// track, and no filter or merge outside its span. The position is below the length of what is played; each stack is empty, with spare for
+/// [`Sealed::ops`] at least. The numbers of what is pushed are in their ranges.
 pub fn start(sealed: &Sealed, at: Pos, out: Lease, ops: Ops) -> Frame
     requires at { at.0 < len (tree sealed.now) }
     requires empty { (ops.image.ops ≡ []) × (ops.sound.ops ≡ []) }
     requires spare { (ops_of (tree sealed.now) ≤ ops.image.spare) × (ops_of (tree sealed.now) ≤ ops.sound.spare) }
-    requires unplanted { IsUnplanted (tree sealed.now) }
     ensures at { result.at ≡ at }
     ensures out { result.out ≡ out }
     ensures image { (m : Matter (List ℕ)) → regs m [] result.image.ops ≡ mean Pictures m (tree sealed.now) at.0 ∷ [] }

@@ -1,17 +1,15 @@
 //! Started frames as a caller sees them.
 
-ghost use Rattle.std.specs.Prelude.{◌≡◌, ◌+◌, ◌≤◌, ◌<◌, ℕ, IfOk};
+ghost use Rattle.std.specs.Prelude.{◌≡◌, ◌+◌, ◌≤◌, ◌<◌, ℕ, All, IfOk, OnOk};
 ghost use Rattle.mlt_tree.specs.Edits.{frames_in};
-ghost use Rattle.mlt_tree.specs.Unbuilt.{IsUnplanted};
-ghost use Rattle.mlt_tree.specs.Units.{AreEntriesBelow};
-ghost use Rattle.mlt_graph.specs.Sealed.{tree};
+ghost use Rattle.mlt_tree.specs.Units.{drafts_of, IsEntryBelow, AreEntriesBelow};
 
 use crate::start;
 use mlt_base::{Pos, SourceNo, Span, UnitId};
 use mlt_frame::{Frame, Ops};
-use mlt_graph::{Graph, Sealed};
+use mlt_graph::{Graph, Level, Sealed};
 use mlt_pool::Pool;
-use mlt_tree::{Attached, Entry, FilterSpec, ItemList, SourceKind};
+use mlt_tree::{Attached, Entry, FilterSpec, Hide, ItemList, MergeSpec, SourceKind};
 use std::alloc::{AllocError, Global};
 use std::test::Fail;
 
@@ -47,9 +45,7 @@ fn clip_and_gap(alloc: Global, unit: UnitId) -> Result<ItemList<Entry>, AllocErr
 }
 
 /// A clip of a picture and a gap.
-fn sealed_list(alloc: Global) -> Result<Sealed, AllocError>
-    ensures { IfOk result (λ sealed. IsUnplanted (tree sealed)) }
-{
+fn sealed_list(alloc: Global) -> Result<Sealed, AllocError> {
     let mut graph = Graph::new(alloc);
     let source = graph.add_source(SourceNo(3), SourceKind::Still, 2)?;
     let list = graph.add_list(clip_and_gap(alloc, source)?)?;
@@ -59,7 +55,42 @@ fn sealed_list(alloc: Global) -> Result<Sealed, AllocError>
     }
 }
 
-/// The position of a frame, its source, and how many operations its picture and its sound have.
+/// Begins a track of the first two frames of a unit.
+fn add_track(level: &mut Level, unit: UnitId) -> Result<(), AllocError>
+    ensures { OnOk result ((count : ℕ) → unit.0 < count → All (λ draft. All (IsEntryBelow count) draft.entries) (drafts_of level.old) → All (λ draft. All (IsEntryBelow count) draft.entries) (drafts_of level.new)) }
+{
+    let hide = Hide {
+        video: false,
+        audio: false,
+    };
+    if level.new_track(hide).is_err() {
+        return Err(AllocError);
+    }
+    if level.last().append_io(unit, 2, 0, 1).is_err() {
+        return Err(AllocError);
+    }
+    Ok(())
+}
+
+/// Two pictures over each other, of which the upper one covers the lower one at position 0, and is its alpha at 1.
+fn sealed_tracks(alloc: Global) -> Result<Sealed, AllocError> {
+    let mut graph = Graph::new(alloc);
+    let low = graph.add_source(SourceNo(3), SourceKind::Still, 2)?;
+    let high = graph.add_source(SourceNo(5), SourceKind::Still, 2)?;
+    let mut level = Level::new(alloc)?;
+    add_track(&mut level, low)?;
+    add_track(&mut level, high)?;
+    level.plant_merge(0, 1, MergeSpec::Matte, 1, Some(1))?;
+    match graph.add_tractor(level) {
+        Ok(tractor) => match graph.seal(tractor) {
+            Ok(sealed) => Ok(sealed),
+            Err(_) => Err(AllocError),
+        },
+        Err(_) => Err(AllocError),
+    }
+}
+
+/// The position of a frame, its first source, and how many operations its picture and its sound have.
 fn tell(frame: &Frame) -> (u32, Option<u32>, usize, usize) {
     let source = match frame.load_at(0) {
         Some(source) => Some(source.0),
@@ -76,9 +107,9 @@ fn tell(frame: &Frame) -> (u32, Option<u32>, usize, usize) {
 /// What the frame of a position tells, where there is one.
 fn start_one(
     alloc: Global,
+    sealed: &Sealed,
     at: u32,
 ) -> Result<Option<(u32, Option<u32>, usize, usize)>, AllocError> {
-    let sealed = sealed_list(alloc)?;
     let ops = Ops::new(alloc, sealed.ops())?;
     let mut pool = Pool::new(alloc);
     if pool.reserve(12, 1).is_err() {
@@ -94,7 +125,7 @@ fn start_one(
         pool.close();
         return Ok(None);
     }
-    let frame = start(&sealed, Pos(at), lease, ops);
+    let frame = start(sealed, Pos(at), lease, ops);
     let told = tell(&frame);
     let _ops = frame.destroy(&mut pool);
     pool.close();
@@ -103,14 +134,18 @@ fn start_one(
 
 #[test]
 fn starts_what_shows(rt: HostRuntime) -> Result<(), Fail> {
+    let list = sealed_list(rt.alloc())?;
+    let tracks = sealed_tracks(rt.alloc())?;
     let rows = [
-        (0, Some((0, Some(3), 2, 1))),
-        (1, Some((1, Some(3), 1, 1))),
-        (4, Some((4, None, 1, 1))),
-        (5, None),
+        (&list, 0, Some((0, Some(3), 2, 1))),
+        (&list, 1, Some((1, Some(3), 1, 1))),
+        (&list, 4, Some((4, None, 1, 1))),
+        (&list, 5, None),
+        (&tracks, 0, Some((0, Some(5), 1, 1))),
+        (&tracks, 1, Some((1, Some(3), 4, 1))),
     ];
-    for (at, told) in rows {
-        assert_eq!(rt; start_one(rt.alloc(), at)?, told, "{at}");
+    for (sealed, at, told) in rows {
+        assert_eq!(rt; start_one(rt.alloc(), sealed, at)?, told, "{at}");
     }
     Ok(())
 }

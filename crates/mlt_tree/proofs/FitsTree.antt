@@ -10,10 +10,11 @@ use Rattle.mlt_tree.specs.declared.node.Body.{Body}
 use Rattle.mlt_tree.specs.declared.node.Body.TheVariants.{Source, Entries, Tractor}
 use Rattle.mlt_tree.specs.declared.node.Node.{Node}
 use Rattle.mlt_tree.specs.declared.node.Track.{Track}
+use Rattle.mlt_tree.specs.declared.node.Track.TheVariants.{Playlist, Half}
 use Rattle.mlt_tree.specs.Show as show
 use Rattle.mlt_tree.specs.Sources.{Fits, FitsBody, HasSource, HasPicture, sources_in, sources_in_parts, sources_in_tracks, maps_in, maps_in_parts, maps_in_tracks, maps_of}
 use Rattle.mlt_tree.specs.Tree.{Tree, Parts, Tracks}
-use Rattle.mlt_tree.specs.Units.{parts_of, tracks_of, entry_tree, body_tree, node_tree, nth_tree, tree_of}
+use Rattle.mlt_tree.specs.Units.{parts_of, track_tree, tracks_of, entry_tree, body_tree, node_tree, nth_tree, tree_of}
 
 module _ (table : List show.Source) where
   -- trees that each fit
@@ -49,13 +50,17 @@ module _ (table : List show.Source) where
           maps = All-append (HasPicture table) (maps_in t) (maps_in_parts rest) (fits_entry e).maps (fits_parts es).maps;
         }
 
+    fits_track : (track : Track) → Fits table (track_tree units track)
+    fits_track (Playlist entries filters hide) = record { sources = (fits_parts entries).sources; maps = (fits_parts entries).maps }
+    fits_track (Half entry) = fits_entry entry
+
     fits_tracks : (tracks : List Track) → FitsTracks (tracks_of units tracks)
     fits_tracks [] = record { sources = All-nil (HasSource table); maps = All-nil (HasPicture table) }
     fits_tracks (track ∷ tracks) =
-        let parts = parts_of units track.entries in let rest = tracks_of units tracks in
+        let t = track_tree units track in let rest = tracks_of units tracks in
         record {
-          sources = All-append (HasSource table) (sources_in_parts parts) (sources_in_tracks rest) (fits_parts track.entries).sources (fits_tracks tracks).sources;
-          maps = All-append (HasPicture table) (maps_in_parts parts) (maps_in_tracks rest) (fits_parts track.entries).maps (fits_tracks tracks).maps;
+          sources = All-append (HasSource table) (sources_in t) (sources_in_tracks rest) (fits_track track).sources (fits_tracks tracks).sources;
+          maps = All-append (HasPicture table) (maps_in t) (maps_in_tracks rest) (fits_track track).maps (fits_tracks tracks).maps;
         }
 
     fits_body : (body : Body) → FitsBody table body → Fits table (body_tree units body)

@@ -12,8 +12,10 @@ mod LevelRows
 mod LoadRows
 mod LoadedRows
 mod MeaningRows
+mod MergeRows
 mod Options
 pub mod Past
+mod PlantRows
 mod Rows
 pub mod StepRanges
 mod Trace

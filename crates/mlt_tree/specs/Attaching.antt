@@ -62,11 +62,9 @@ pub record Asked : Type 0 where
   pub last : Option ℕ
 
 -- a last position that is given is not before the first
-abbrev pub ordered : (place : ℕ) → Asked → Result Asked Refusal
-ordered place asked = by asked.last where
-  by : Option ℕ → Result Asked Refusal
-  by None = Ok asked
-  by (Some last) = if nat_le asked.first last then Ok asked else refuse place (cause.BadRange asked.first last 0)
+abbrev pub ordered : (place first : ℕ) → Option ℕ → Result (Unit {0}) Refusal
+ordered place first None = Ok tt
+ordered place first (Some last) = if nat_le first last then Ok tt else refuse place (cause.BadRange first last 0)
 
 -- the range, then the properties of the filter alone
 unfoldable pub asked_by : State → Group → FilterKind → List Prop → Result Asked Refusal
@@ -74,7 +72,8 @@ asked_by s g kind props = do
   first ← moment_or_first row.IN s.profile props
   last ← moment row.OUT s.profile props
   spec ← spec_of kind g.place props
-  ordered g.place (record { spec = spec; first = first; last = last })
+  range ← ordered g.place first last
+  Ok (record { spec = spec; first = first; last = last })
 
 -- what stands behind the `:` of a filter's word is a value of its first property, in the word's own place
 abbrev pub valued : (place : ℕ) → Option Name → Option (List ℕ) → List Prop

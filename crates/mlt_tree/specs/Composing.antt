@@ -1,15 +1,15 @@
 -- From groups to what is played: what is not built first, then the profile, then the groups in word order.
-use Rattle.std.specs.Prelude.{ℕ, List}
+use Rattle.std.specs.Prelude.{ℕ, true, false, List}
 use Rattle.mlt_tree.specs.declared.group.Group.{Group}
 use Rattle.mlt_tree.specs.declared.group.GroupKind.{GroupKind}
 use Rattle.mlt_tree.specs.declared.group.GroupKind.TheVariants as kind
-use Rattle.mlt_tree.specs.declared.refusal.Cause.TheVariants as cause
 use Rattle.mlt_tree.specs.Attaching.{attach, attach_clip, attach_track}
 use Rattle.mlt_tree.specs.Clips.{Origin, OfColour, OfPicture, Wanted, Product, asked_for, source_made, clip_added}
 use Rattle.mlt_tree.specs.Composition.{State, start, blank, join, remove, repeat, split, swap, consumer, inherit}
 use Rattle.mlt_tree.specs.Loaded.{picture_made}
 use Rattle.mlt_tree.specs.Loading.{Files, Read, done, plainly, through, ◌>>=◌}
-use Rattle.mlt_tree.specs.Refusing.{refuse}
+use Rattle.mlt_tree.specs.Merging.{transition, mixer}
+use Rattle.mlt_tree.specs.Planting.{begin_track, mix, plant_filter}
 use Rattle.mlt_tree.specs.Sealing.{framed, seal}
 use Rattle.mlt_tree.specs.Show.{Show, Plain}
 
@@ -25,36 +25,33 @@ producer files s g = do
   made ← product_of files s g asked.0 asked.1
   plainly (clip_added s g made asked.1)
 
--- what a group does; an option that is not built is refused before
+-- what a group does
 unfoldable pub effect : Files → State → Group → Read State
 effect files s g = by g.kind where
-  later : Read State
-  later = plainly (refuse g.place cause.Unsupported)
-
   by : GroupKind → Read State
   by kind.Producer = producer files s g
   by kind.Attach = plainly (attach s g)
   by kind.AttachCut = plainly (attach s g)
   by kind.AttachClip = plainly (attach_clip s g)
   by kind.AttachTrack = plainly (attach_track s g)
-  by kind.Filter = later
-  by kind.Transition = later
+  by kind.Filter = plainly (plant_filter s g)
+  by kind.Transition = transition files s g
   by kind.Blank = plainly (blank s g)
   by kind.Group = plainly (inherit s g)
   by kind.Join = plainly (join s g)
-  by kind.Mix = later
-  by kind.Mixer = later
+  by kind.Mix = plainly (mix s g)
+  by kind.Mixer = mixer files s g
   by kind.Remove = plainly (remove s g)
   by kind.Repeat = plainly (repeat s g)
   by kind.Split = plainly (split s g)
   by kind.Swap = plainly (swap s g)
-  by kind.Track = later
-  by kind.HideVideo = later
-  by kind.AudioTrack = later
-  by kind.HideAudio = later
-  by kind.VideoTrack = later
-  by kind.HideTrack = later
-  by kind.NullTrack = later
+  by kind.Track = plainly (begin_track false false s g)
+  by kind.HideVideo = plainly (begin_track true false s g)
+  by kind.AudioTrack = plainly (begin_track true false s g)
+  by kind.HideAudio = plainly (begin_track false true s g)
+  by kind.VideoTrack = plainly (begin_track false true s g)
+  by kind.HideTrack = plainly (begin_track true true s g)
+  by kind.NullTrack = plainly (begin_track true true s g)
   by kind.Profile = done s
   by kind.Consumer = plainly (consumer s g)
   by kind.Serialise = done s

@@ -11,7 +11,10 @@ pub mod Loaded
 pub mod Loading
 pub mod Meaning
 pub mod Medium
+pub mod Merges
+pub mod Merging
 pub mod Needs
+pub mod Planting
 pub mod Props
 pub mod Ranges
 pub mod Reading

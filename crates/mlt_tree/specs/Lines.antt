@@ -5,7 +5,7 @@ use Rattle.std.specs.List.{flat_map}
 use Rattle.mlt_base.specs.declared.port.Port.{Port}
 use Rattle.mlt_base.specs.declared.port.Port.TheVariants.{Video, Audio, Script, Text}
 use Rattle.mlt_tree.specs.declared.refusal.Cause.{Cause}
-use Rattle.mlt_tree.specs.declared.refusal.Cause.TheVariants.{UnknownOption, Unsupported, MissingArgument, StrayProperty, UnknownService, BadValue, BadNumber, OutOfRange, TooFew, BadClip, BadSplit, BadRange, NoProducer, TooMany, TooLong, TooDeep, TooLarge, FileTooLarge, BadPicture}
+use Rattle.mlt_tree.specs.declared.refusal.Cause.TheVariants.{UnknownOption, Unsupported, MissingArgument, StrayProperty, UnknownService, BadValue, BadNumber, OutOfRange, TooFew, BadClip, BadSplit, BadRange, NoMix, BadTrack, SameTrack, NoProducer, TooMany, TooLong, TooDeep, TooLarge, FileTooLarge, BadPicture}
 use Rattle.mlt_tree.specs.declared.refusal.Refusal.{Refusal}
 
 -- a piece of a line: words, or a number in decimal digits
@@ -40,6 +40,9 @@ cause_pieces (TooFew asked there) = Count asked ∷ Words (codes " wanted, ") �
 cause_pieces (BadClip index count) = Words (codes "no clip at ") ∷ Count index ∷ Words (codes " of ") ∷ Count count ∷ []
 cause_pieces (BadSplit at frames) = Words (codes "cannot split ") ∷ Count frames ∷ Words (codes " frames at ") ∷ Number at ∷ []
 cause_pieces (BadRange first last length) = Words (codes "bad range ") ∷ Count first ∷ Words (codes " to ") ∷ Count last ∷ Words (codes " of ") ∷ Count length ∷ []
+cause_pieces NoMix = words (codes "no mix to apply to")
+cause_pieces (BadTrack track tracks) = Words (codes "no track ") ∷ Count track ∷ Words (codes " of ") ∷ Count tracks ∷ []
+cause_pieces (SameTrack track) = Words (codes "track ") ∷ Count track ∷ Words (codes " named twice") ∷ []
 cause_pieces NoProducer = words (codes "nothing to play")
 cause_pieces (TooMany limit) = Words (codes "more than ") ∷ Count limit ∷ []
 cause_pieces (TooLong frames) = Count frames ∷ Words (codes " frames are too many") ∷ []

@@ -31,9 +31,14 @@ picture_in place (Err fault) = refuse place (cause.BadPicture fault)
 abbrev pub with_loaded : Made → ℕ → Made
 with_loaded made bytes = record made { loaded = made.loaded + bytes }
 
--- the source of a picture's file
-unfoldable pub picture_made : Files → Measures → Made → (place : ℕ) (name : List ℕ) → Wanted → Read Product
-picture_made files profile made place name asked = do
+-- the picture of a file, and what is made with its bytes counted
+unfoldable pub picture_loaded : Files → Made → (place : ℕ) (name : List ℕ) → Read (Made × Picture)
+picture_loaded files made place name = do
   bytes ← file_within files place name (load_limit made.loaded)
   picture ← plainly (picture_in place (ppm bytes))
-  done (source_made profile (with_loaded made (length bytes)) (Drawn picture) asked)
+  done (with_loaded made (length bytes), picture)
+
+-- the source of a picture's file
+unfoldable pub picture_made : Files → Measures → Made → (place : ℕ) (name : List ℕ) → Wanted → Read Product
+picture_made files profile made place name asked =
+    picture_loaded files made place name >>= λ read. done (source_made profile read.0 (Drawn read.1) asked)

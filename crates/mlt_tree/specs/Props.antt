@@ -1,9 +1,14 @@
 -- The value of a property: of several with one name the last counts, and a fault is at its own word.
 use Rattle.std.specs.Prelude.{ℕ, ◌+◌, ◌==◌, ◌&&◌, Bool, true, false, nat_le, if◌then◌else◌, ℤ, pos, negsuc, neg_ℤ, List, [], ◌∷◌, length, fold, Option, None, Some, Result, Ok}
+use Rattle.std.specs.Option.{option_map}
 use Rattle.std.specs.Str.{bytes_eq}
 use Rattle.mlt_base.specs.Animation.{animation}
 use Rattle.mlt_base.specs.declared.animation.Key.{Key}
 use Rattle.mlt_base.specs.declared.name.Name.{Name}
+use Rattle.mlt_base.specs.declared.geometry.Geometry.{Geometry}
+use Rattle.mlt_base.specs.Decimal.{decimal}
+use Rattle.mlt_base.specs.Geometry.{geometry}
+use Rattle.mlt_base.specs.GeometryView.{geometry_of}
 use Rattle.mlt_base.specs.Name.{name_of}
 use Rattle.mlt_base.specs.Profile.{Measures}
 use Rattle.mlt_base.specs.Time.{time}
@@ -18,6 +23,9 @@ use Rattle.mlt_tree.specs.declared.row.Choice.{Choice}
 use Rattle.mlt_tree.specs.declared.row.Animated.{Animated}
 use Rattle.mlt_tree.specs.declared.row.Letters.{Letters}
 use Rattle.mlt_tree.specs.declared.row.Moment.{Moment}
+use Rattle.mlt_tree.specs.declared.row.Share.{Share}
+use Rattle.mlt_tree.specs.declared.row.FileName.{FileName}
+use Rattle.mlt_tree.specs.declared.row.Area.{Area}
 use Rattle.mlt_base.specs.Steps.{◌>>=◌}
 use Rattle.mlt_tree.specs.Refusing.{refuse, or_refuse, at_word}
 
@@ -84,6 +92,18 @@ channels_of (letter ∷ letters) = behind (channel_of letter) (channels_of lette
 unfoldable pub lettered : ℕ → List ℕ → Result (List ℕ) Refusal
 lettered place text = if length text == 4 then or_refuse place BadValue (channels_of text) else refuse place BadValue
 
+-- a number from 0 to 1, in 65536ths
+abbrev pub at_most_one : (place q : ℕ) → Result ℕ Refusal
+at_most_one place q = if nat_le q 65536 then Ok q else refuse place BadValue
+
+unfoldable pub shared : ℕ → List ℕ → Result ℕ Refusal
+shared place text = at_word place (decimal 0 text) >>= at_most_one place
+
+-- a place and a size in a frame of this profile
+unfoldable pub placed : Measures → ℕ → List ℕ → Result Geometry Refusal
+placed profile place text =
+    or_refuse place BadValue (option_map geometry_of (geometry profile.width profile.height text))
+
 -- a position, in this profile
 unfoldable pub timed : Measures → ℕ → List ℕ → Result ℕ Refusal
 timed profile place text = at_word place (time profile.num profile.den text)
@@ -126,3 +146,15 @@ moment row profile props = read_given (timed profile) (last_named (name_of row.n
 -- a position, or the first
 abbrev pub moment_or_first : Moment → Measures → List Prop → Result ℕ Refusal
 moment_or_first row profile props = read_prop (timed profile) 0 (last_named (name_of row.name) props)
+
+-- a number from 0 to 1, or 0
+abbrev pub share : Share → List Prop → Result ℕ Refusal
+share row props = read_prop shared 0 (last_named (name_of row.name) props)
+
+-- a place and a size in the frame, or the default
+abbrev pub area : Area → Measures → List Prop → Result Geometry Refusal
+area row profile props = prop_or (placed profile) row.default (last_named (name_of row.name) props)
+
+-- the name of a file, where it is given
+abbrev pub file_name : FileName → List Prop → Option (List ℕ)
+file_name row props = option_map (λ (prop : Prop). prop.value) (last_named (name_of row.name) props)

@@ -1,7 +1,9 @@
 -- The ranges of filters, merges, plants and entries. An enum can't keep a range by itself, so each call
 -- that is handed one of these asks for it.
-use Rattle.std.specs.Prelude.{ℕ, ◌+◌, ◌-◌, ◌≤◌, ◌<◌, All}
+use Rattle.std.specs.Prelude.{ℕ, ◌+◌, ◌-◌, ◌≤◌, ◌<◌, ◌^◌, All}
+use Rattle.mlt_base.specs.GeometryView.{IsPlacement}
 use Rattle.mlt_base.specs.Span.{IsSpan}
+use Rattle.mlt_tree.specs.Acting.{span_frames}
 use Rattle.mlt_tree.specs.declared.entry.Entry.{Entry}
 use Rattle.mlt_tree.specs.declared.entry.Entry.TheVariants.{Clip, Gap}
 use Rattle.mlt_tree.specs.declared.filter.FilterSpec.{FilterSpec}
@@ -35,7 +37,7 @@ IsFilter Silence = Unit {0}
 
 abbrev pub IsMerge : MergeSpec → Type 0
 IsMerge (Luma map softness) = softness.0 ≤ 65536
-IsMerge (Composite geometry) = Unit {0}
+IsMerge (Composite geometry) = IsPlacement geometry
 IsMerge Matte = Unit {0}
 IsMerge Mix = Unit {0}
 IsMerge Sum = Unit {0}
@@ -61,7 +63,7 @@ IsFilterStep step.Silence = Unit {0}
 -- a merge where p of its frames have passed: it has more, and is at most whole
 abbrev pub IsMergeStep : MergeStep → Type 0
 IsMergeStep (merge_step.Luma map softness q) = (softness.0 ≤ 65536) × (q.0 ≤ 65536)
-IsMergeStep (merge_step.Composite geometry) = Unit {0}
+IsMergeStep (merge_step.Composite geometry) = IsPlacement geometry
 IsMergeStep merge_step.Matte = Unit {0}
 IsMergeStep (merge_step.Mix p frames) = p < frames
 IsMergeStep merge_step.Sum = Unit {0}
@@ -69,9 +71,10 @@ IsMergeStep merge_step.Sum = Unit {0}
 abbrev pub IsAttached : Attached → Type 0
 IsAttached filter = IsFilter filter.spec × IsSpan filter.span
 
+-- the frames of a merge are counted in 32 bits
 abbrev pub IsPlant : Plant → Type 0
 IsPlant (OnTrack track spec span) = IsFilter spec × IsSpan span
-IsPlant (Between a b spec span) = IsMerge spec × IsSpan span
+IsPlant (Between a b spec span) = IsMerge spec × IsSpan span × (span_frames span < 2 ^ 32)
 
 -- an entry has at least one frame, and filters in their ranges
 abbrev pub IsEntry : Entry → Type 0

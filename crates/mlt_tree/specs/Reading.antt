@@ -125,7 +125,7 @@ written (Err stop) port = None
 abbrev pub query_text : QueryKind → List ℕ
 query_text Producers = listed (map (λ row. row.name) PRODUCERS)
 query_text Filters = listed (map (λ row. row.name) FILTERS)
-query_text Transitions = listed MERGES
+query_text Transitions = listed (map (λ row. row.name) MERGES)
 query_text Consumers = listed CONSUMERS
 query_text Profiles = listed (map (λ row. row.name) PROFILES)
 

@@ -1,5 +1,5 @@
 -- The frame of a composition, and its end: its tree, whether there is something to play, and not too much of it.
-use Rattle.std.specs.Prelude.{ℕ, ◌+◌, ◌-◌, ◌*◌, nat_le, nat_eq, max, if◌then◌else◌, List, [], ◌∷◌, ◌++◌, length, None, unwrap_or, Result, Ok, codes}
+use Rattle.std.specs.Prelude.{ℕ, ◌+◌, ◌-◌, ◌*◌, nat_le, nat_eq, max, if◌then◌else◌, List, [], ◌∷◌, ◌++◌, length, get_or, Option, None, Some, unwrap_or, Result, Ok, codes}
 use Rattle.mlt_base.specs.Profile.{Measures}
 use Rattle.mlt_base.specs.Samples.{most_samples}
 use Rattle.mlt_base.specs.declared.limits.TheConstants as limit
@@ -16,7 +16,7 @@ use Rattle.mlt_tree.specs.Show.{Show, Settings, Source, Rgb, S16, pixels_of}
 use Rattle.mlt_tree.specs.Sizes.{need, weight}
 use Rattle.mlt_tree.specs.Tree.{Tree, len}
 use Rattle.mlt_tree.specs.Unbuilt.{built_step}
-use Rattle.mlt_tree.specs.Units.{tree_of, depth_of, tractor_of}
+use Rattle.mlt_tree.specs.Units.{tree_of, depth_of, tractor_of, drafts_of, Misplaced, OffTracks, Doubled, level_misplaced}
 
 -- ---- the profile, which the first `-profile` gives
 
@@ -86,6 +86,15 @@ few_frames count range =
 abbrev pub few_bytes : ℕ → ℕ → Cut → Result Cut Refusal
 few_bytes count bytes range = if nat_le bytes limit.MOST_BYTES then Ok range else refuse count (cause.TooLarge bytes)
 
+-- what is planted is on tracks that are there, of so many, by the places of the plants' groups
+abbrev pub placed : List ℕ → (tracks : ℕ) → Option (ℕ × Misplaced) → Result (Unit {0}) Refusal
+placed places tracks None = Ok tt
+placed places tracks (Some (plant, OffTracks track)) = refuse (get_or places plant 0) (cause.BadTrack track tracks)
+placed places tracks (Some (plant, Doubled track)) = refuse (get_or places plant 0) (cause.SameTrack track)
+
+abbrev pub plants_placed : State → Result (Unit {0}) Refusal
+plants_placed s = placed s.plant_places (length (drafts_of s.level)) (level_misplaced s.level)
+
 -- something is played
 abbrev pub some_frames : ℕ → Tree → Result (Unit {0}) Refusal
 some_frames count t = if nat_eq (len t) 0 then refuse count cause.NoProducer else Ok tt
@@ -124,5 +133,6 @@ show_of_tree count s t = do
 -- at the end of so many words
 unfoldable pub seal : ℕ → State → Result Show Refusal
 seal count s = do
+  on_tracks ← plants_placed s
   whole ← sealable count (all_units s) (length s.made.units)
   show_of_tree count s (whole_tree s)

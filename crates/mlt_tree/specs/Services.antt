@@ -10,7 +10,8 @@ use Rattle.mlt_tree.specs.declared.services.Producer.{Producer}
 use Rattle.mlt_tree.specs.declared.services.Producer.TheVariants.{Colour, Picture, Sound, Melt}
 use Rattle.mlt_tree.specs.declared.services.ProducerRow.{ProducerRow}
 use Rattle.mlt_tree.specs.declared.services.FilterRow.{FilterRow}
-use Rattle.mlt_tree.specs.declared.services.TheConstants.{PRODUCERS, FILTERS, RAW}
+use Rattle.mlt_tree.specs.declared.services.MergeRow.{MergeRow}
+use Rattle.mlt_tree.specs.declared.services.TheConstants.{PRODUCERS, FILTERS, MERGES, RAW}
 
 -- names, each with a line end
 abbrev pub listed : List Name → List ℕ
@@ -84,7 +85,7 @@ raw_by_id (Some parts) = if bytes_eq parts.0 (name_of RAW) then Some (output_nam
 abbrev pub raw_of : List ℕ → Option (List ℕ)
 raw_of word = if bytes_eq word (name_of RAW) then Some (codes "-") else raw_by_id (split_once 58 word)
 
--- ---- filters
+-- ---- filters and merges
 
 -- the id of a word, and what stands behind the first `:`, where there is one
 pub record Called : Type 0 where
@@ -104,3 +105,10 @@ is_filter id row = bytes_eq (name_of row.name) id
 -- the filter of an id
 abbrev pub filter_named : List ℕ → Option FilterRow
 filter_named id = find (is_filter id) FILTERS
+
+abbrev pub is_merge : List ℕ → MergeRow → Bool
+is_merge id row = bytes_eq (name_of row.name) id
+
+-- the merge of an id
+abbrev pub merge_named : List ℕ → Option MergeRow
+merge_named id = find (is_merge id) MERGES

@@ -1,5 +1,6 @@
 -- What is played, and the bytes that it gives.
 use Rattle.std.specs.Prelude.{ℕ, ◌+◌, ◌-◌, ◌*◌, zero, suc, List, [], ◌++◌, length, Option, None, Some, unwrap_or, slice_get}
+use Rattle.std.specs.Option.{option_map}
 use Rattle.mlt_base.specs.Colour.{Pixel}
 use Rattle.mlt_base.specs.Fitting.{fitted}
 use Rattle.mlt_base.specs.Mixing.{table}
@@ -9,7 +10,9 @@ use Rattle.mlt_base.specs.declared.port.Port.{Port}
 use Rattle.mlt_base.specs.declared.port.Port.TheVariants.{Video, Audio, Script, Text}
 use Rattle.mlt_tree.specs.declared.tree.SourceKind.{SourceKind}
 use Rattle.mlt_tree.specs.declared.tree.SourceKind.TheVariants.{Colour, Still}
+use Rattle.mlt_tree.specs.declared.merge.MergeStep.{MergeStep}
 use Rattle.mlt_tree.specs.Filters.{picture_filter}
+use Rattle.mlt_tree.specs.Merges.{map_of, picture_merge}
 use Rattle.mlt_tree.specs.Meaning.{Matter, mean}
 use Rattle.mlt_tree.specs.Medium.{Pictures}
 use Rattle.mlt_tree.specs.Needs.{needs}
@@ -83,12 +86,16 @@ abbrev pub picture_of : Measures → Option Source → List ℕ
 picture_of profile None = clear (pixels_of profile)
 picture_of profile (Some source) = source_picture profile source
 
--- what pictures are made of, in a profile. Merges come with their formulas: no show that is played has one yet
+-- the picture of the map of a merge, where it takes one
+abbrev pub map_picture : Measures → List Source → MergeStep → Option (List ℕ)
+map_picture profile sources step = option_map (λ no. picture_of profile (slice_get sources no.0)) (map_of step)
+
+-- what pictures are made of, in a profile; under a picture that is merged, nothing counts as transparent black
 abbrev pub pictures_of : Measures → List Source → Matter (List ℕ)
 pictures_of profile sources = record {
   source = λ source n. picture_of profile (slice_get sources source);
   filter = λ step picture. picture_filter step profile.width picture;
-  merge = λ step under picture. picture;
+  merge = λ step under picture. picture_merge step (map_picture profile sources step) profile.width (unwrap_or under (clear (pixels_of profile))) picture;
 }
 
 abbrev pub pictures : Show → Matter (List ℕ)

@@ -1,23 +1,23 @@
 -- What is not built yet: each such word is refused at its place, before all else that is said of a composition.
-use Rattle.std.specs.Prelude.{ℕ, ◌≡◌, ◌||◌, Bool, true, false, if◌then◌else◌, List, [], Option, None, Some, Result, Ok, find, codes}
+use Rattle.std.specs.Prelude.{ℕ, ◌≡◌, ◌||◌, Bool, true, false, if◌then◌else◌, List, Option, None, Some, Result, Ok, find, codes}
 use Rattle.std.specs.Str.{bytes_eq}
 use Rattle.mlt_tree.specs.declared.group.Group.{Group}
 use Rattle.mlt_tree.specs.declared.group.GroupKind.{GroupKind}
 use Rattle.mlt_tree.specs.declared.group.GroupKind.TheVariants as kind
 use Rattle.mlt_tree.specs.declared.group.Prop.{Prop}
-use Rattle.mlt_tree.specs.declared.node.Body.{Body}
-use Rattle.mlt_tree.specs.declared.node.Body.TheVariants as body
 use Rattle.mlt_tree.specs.declared.refusal.Cause.TheVariants as cause
 use Rattle.mlt_tree.specs.declared.refusal.Refusal.{Refusal}
 use Rattle.mlt_tree.specs.declared.services.FilterKind.{FilterKind}
 use Rattle.mlt_tree.specs.declared.services.FilterKind.TheVariants as filter
 use Rattle.mlt_tree.specs.declared.services.FilterRow.{FilterRow}
+use Rattle.mlt_tree.specs.declared.services.MergeKind.{MergeKind}
+use Rattle.mlt_tree.specs.declared.services.MergeKind.TheVariants as merge
+use Rattle.mlt_tree.specs.declared.services.MergeRow.{MergeRow}
 use Rattle.mlt_tree.specs.declared.services.Producer.{Producer}
 use Rattle.mlt_tree.specs.declared.services.Producer.TheVariants.{Colour, Picture, Sound, Melt}
 use Rattle.mlt_tree.specs.Refusing.{refuse}
-use Rattle.mlt_tree.specs.Services.{Named, producer_of, raw_of, called, filter_named}
+use Rattle.mlt_tree.specs.Services.{Named, producer_of, raw_of, called, filter_named, merge_named}
 use Rattle.mlt_tree.specs.Show.{Show}
-use Rattle.mlt_tree.specs.Tree.{Tree, Parts, Tracks, Src, Blank, Part, Seq, With, Rows, End, Then, NoTrack, Track}
 
 -- whether this property of the consumer is not
 abbrev pub is_later_prop : Prop → Bool
@@ -60,6 +60,20 @@ filter_built g = by (filter_named (called g.arg).id) where
   by None = Ok tt
   by (Some row) = if is_picture_filter row.kind then Ok tt else refuse g.place cause.Unsupported
 
+abbrev pub is_picture_merge : MergeKind → Bool
+is_picture_merge merge.Luma = true
+is_picture_merge merge.Composite = true
+is_picture_merge merge.Matte = true
+is_picture_merge merge.Mix = false
+is_picture_merge merge.Sum = false
+
+-- a merge of pictures; one of an unknown service is refused as that
+abbrev pub merge_built : Group → Result (Unit {0}) Refusal
+merge_built g = by (merge_named (called g.arg).id) where
+  by : Option MergeRow → Result (Unit {0}) Refusal
+  by None = Ok tt
+  by (Some row) = if is_picture_merge row.kind then Ok tt else refuse g.place cause.Unsupported
+
 abbrev pub refuse_prop : Option Prop → Result (Unit {0}) Refusal
 refuse_prop None = Ok tt
 refuse_prop (Some p) = refuse p.place cause.Unsupported
@@ -79,24 +93,24 @@ built g = by g.kind where
   by kind.AttachCut = filter_built g
   by kind.AttachClip = filter_built g
   by kind.AttachTrack = filter_built g
-  by kind.Filter = later
-  by kind.Transition = later
+  by kind.Filter = filter_built g
+  by kind.Transition = merge_built g
   by kind.Blank = Ok tt
   by kind.Group = Ok tt
   by kind.Join = Ok tt
-  by kind.Mix = later
-  by kind.Mixer = later
+  by kind.Mix = Ok tt
+  by kind.Mixer = merge_built g
   by kind.Remove = Ok tt
   by kind.Repeat = Ok tt
   by kind.Split = Ok tt
   by kind.Swap = Ok tt
-  by kind.Track = later
-  by kind.HideVideo = later
-  by kind.AudioTrack = later
-  by kind.HideAudio = later
-  by kind.VideoTrack = later
-  by kind.HideTrack = later
-  by kind.NullTrack = later
+  by kind.Track = Ok tt
+  by kind.HideVideo = Ok tt
+  by kind.AudioTrack = Ok tt
+  by kind.HideAudio = Ok tt
+  by kind.VideoTrack = Ok tt
+  by kind.HideTrack = Ok tt
+  by kind.NullTrack = Ok tt
   by kind.Profile = Ok tt
   by kind.Consumer = props_built g (raw_of g.arg)
   by kind.Serialise = later
@@ -118,31 +132,6 @@ built_step done g = built g
 
 -- ---- what no player plays yet
 
-abbrev mutual
-  -- a tree with nothing planted on its tracks
-  pub IsUnplanted : Tree → Type 0
-  IsUnplanted (Src source kind frames) = Unit {0}
-  IsUnplanted (Blank frames) = Unit {0}
-  IsUnplanted (Part t first last) = IsUnplanted t
-  IsUnplanted (Seq parts) = AreUnplantedParts parts
-  IsUnplanted (With t filters) = IsUnplanted t
-  IsUnplanted (Rows tracks plants) = AreUnplantedTracks tracks × (plants ≡ [])
-
-  pub AreUnplantedParts : Parts → Type 0
-  AreUnplantedParts End = Unit {0}
-  AreUnplantedParts (Then t parts) = IsUnplanted t × AreUnplantedParts parts
-
-  pub AreUnplantedTracks : Tracks → Type 0
-  AreUnplantedTracks NoTrack = Unit {0}
-  AreUnplantedTracks (Track t hide tracks) = IsUnplanted t × AreUnplantedTracks tracks
-
--- a show that can be played: with nothing planted, and no sound
+-- a show that can be played: one without sound
 pub record IsPlayed (show : Show) : Type 0 where
-  pub unplanted : IsUnplanted show.tree
   pub silent : show.output.audio ≡ None
-
--- a unit with nothing planted on its tracks
-abbrev pub HasNoPlant : Body → Type 0
-HasNoPlant (body.Source source kind frames) = Unit {0}
-HasNoPlant (body.Entries entries) = Unit {0}
-HasNoPlant (body.Tractor tracks plants) = plants ≡ []

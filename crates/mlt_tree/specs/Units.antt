@@ -1,5 +1,8 @@
 -- Units, the tree that each stands for, and the tracks that become one.
-use Rattle.std.specs.Prelude.{ℕ, ◌+◌, ◌-◌, ◌≡◌, ◌≢◌, ◌<◌, max, false, List, [], ◌∷◌, ◌++◌, length, map, fold, get_or, set, Option, unwrap_or, All}
+use Rattle.std.specs.Prelude.{ℕ, ◌+◌, ◌-◌, ◌≡◌, ◌≢◌, ◌<◌, ◌≤◌, nat_lt, nat_eq, max, false, if◌then◌else◌, List, [], ◌∷◌, ◌++◌, length, map, fold, get_or, set, Option, None, Some, unwrap_or, Result, Ok, Err, All}
+use Rattle.mlt_base.specs.declared.faults.PlayFault.{PlayFault}
+use Rattle.mlt_base.specs.declared.faults.PlayFault.TheVariants.{TooMany}
+use Rattle.mlt_base.specs.declared.limits.TheConstants.{MOST_TRACKS}
 use Rattle.mlt_base.specs.declared.profile.SourceNo.{SourceNo}
 use Rattle.mlt_base.specs.declared.value.Span.{Span}
 use Rattle.mlt_base.specs.Span.{span}
@@ -13,13 +16,16 @@ use Rattle.mlt_tree.specs.declared.node.Body.{Body}
 use Rattle.mlt_tree.specs.declared.node.Body.TheVariants.{Source, Entries, Tractor}
 use Rattle.mlt_tree.specs.declared.node.Node.{Node}
 use Rattle.mlt_tree.specs.declared.node.Track.{Track as TrackOf}
+use Rattle.mlt_tree.specs.declared.node.Track.TheVariants.{Playlist, Half}
+use Rattle.mlt_tree.specs.declared.merge.MergeSpec.{MergeSpec}
 use Rattle.mlt_tree.specs.declared.tree.Attached.{Attached}
+use Rattle.mlt_tree.specs.declared.tree.Hide.{Hide}
 use Rattle.mlt_tree.specs.declared.tree.Plant.{Plant}
 use Rattle.mlt_tree.specs.declared.tree.Plant.TheVariants.{OnTrack, Between}
 use Rattle.mlt_tree.specs.declared.tree.SourceKind.{SourceKind}
 use Rattle.mlt_tree.specs.Edits.{frames_in}
 use Rattle.mlt_tree.specs.Ranges.{IsAttached, IsEntry, IsPlant}
-use Rattle.mlt_tree.specs.Tree.{Tree, Parts, Tracks, Src, Blank, Part, Seq, With, Rows, End, Then, NoTrack, Track}
+use Rattle.mlt_tree.specs.Tree.{Tree, Parts, Tracks, Src, Blank, Part, Seq, With, Rows, End, Then, NoTrack, Track, len}
 
 -- the unit of a source of so many frames
 abbrev pub source_unit : SourceNo → SourceKind → ℕ → Node
@@ -39,11 +45,21 @@ parts_of units [] = End
 parts_of units (e ∷ es) = Then (entry_tree units e) (parts_of units es)
 
 abbrev pub track_tree : (ℕ → Tree) → TrackOf → Tree
-track_tree units track = With (Seq (parts_of units track.entries)) track.filters
+track_tree units (Playlist entries filters hide) = With (Seq (parts_of units entries)) filters
+track_tree units (Half entry) = entry_tree units entry
+
+-- gives both media
+abbrev pub seen : Hide
+seen = record { video = false; audio = false }
+
+-- for which medium a track gives nothing
+abbrev pub hide_of : TrackOf → Hide
+hide_of (Playlist entries filters hide) = hide
+hide_of (Half entry) = seen
 
 abbrev pub tracks_of : (ℕ → Tree) → List TrackOf → Tracks
 tracks_of units [] = NoTrack
-tracks_of units (track ∷ tracks) = Track (track_tree units track) track.hide (tracks_of units tracks)
+tracks_of units (track ∷ tracks) = Track (track_tree units track) (hide_of track) (tracks_of units tracks)
 
 abbrev pub body_tree : (ℕ → Tree) → Body → Tree
 body_tree units (Source source kind count) = Src source.0 kind count
@@ -88,11 +104,8 @@ plant_within frames (pending.Between a b spec first last) = Between a b spec (sp
 
 -- the track, as it stands at the end
 abbrev pub track_of : Draft → TrackOf
-track_of draft = record {
-  entries = draft.entries;
-  filters = map (attached_within (frames_in draft.entries)) draft.filters;
-  hide = draft.hide;
-}
+track_of draft =
+    Playlist draft.entries (map (attached_within (frames_in draft.entries)) draft.filters) draft.hide
 
 -- the tracks of a tractor that is not made yet: those to which nothing is added any more, the one that entries are
 -- added to, and what is planted on them
@@ -101,12 +114,12 @@ pub record Level : Type 0 where
   pub current : Draft
   pub plants : List PendingPlant
 
--- a track with no entry, which gives both media
-abbrev pub empty_draft : Draft
-empty_draft = record { entries = []; filters = []; hide = record { video = false; audio = false } }
+-- a track with no entry and no filter
+abbrev pub empty_draft : Hide → Draft
+empty_draft hide = record { entries = []; filters = []; hide = hide }
 
 abbrev pub empty_level : Level
-empty_level = record { closed = []; current = empty_draft; plants = [] }
+empty_level = record { closed = []; current = empty_draft seen; plants = [] }
 
 abbrev pub drafts_of : Level → List Draft
 drafts_of level = level.closed ++ level.current ∷ []
@@ -125,6 +138,82 @@ tractor_of level = record {
 -- with other entries in the track that they are added to
 abbrev pub with_entries : Level → List Entry → Level
 with_entries level entries = record level { current = record level.current { entries = entries } }
+
+-- a track begins, with this hide: where the last one has no entry it stays, and gets the hide
+abbrev pub new_track : Level → Hide → Result Level PlayFault
+new_track level hide = by level.current.entries where
+  by : List Entry → Result Level PlayFault
+  by [] = Ok (record level { current = record level.current { hide = hide } })
+  by (e ∷ es) =
+      if nat_lt (length (drafts_of level)) MOST_TRACKS then Ok (record level { closed = drafts_of level; current = empty_draft hide }) else Err (TooMany MOST_TRACKS)
+
+-- with one plant more, which acts after those that there are
+abbrev pub with_plant : Level → PendingPlant → Level
+with_plant level plant = record level { plants = level.plants ++ plant ∷ [] }
+
+-- ---- plants on tracks that aren't there
+
+-- what is wrong with the tracks of a plant: one that isn't there, or the same one twice
+pub data Misplaced : Type 0 where
+  OffTracks : (no : ℕ) → Misplaced
+  Doubled : (no : ℕ) → Misplaced
+
+-- the first that is wrong, among so many tracks
+abbrev pub misplaced : (tracks : ℕ) → PendingPlant → Option Misplaced
+misplaced tracks (pending.OnTrack track spec first last) = if nat_lt track tracks then None else Some (OffTracks track)
+misplaced tracks (pending.Between a b spec first last) =
+    if nat_lt a tracks then (if nat_lt b tracks then (if nat_eq a b then Some (Doubled a) else None) else Some (OffTracks b)) else Some (OffTracks a)
+
+-- a fault with the number of its plant, else the one that is found behind it
+abbrev pub numbered_or : (plant : ℕ) → Option Misplaced → Option (ℕ × Misplaced) → Option (ℕ × Misplaced)
+numbered_or plant None later = later
+numbered_or plant (Some wrong) later = Some (plant, wrong)
+
+-- of plants that are numbered from a number on, the first that is misplaced, and how
+abbrev pub first_misplaced : (tracks from : ℕ) → List PendingPlant → Option (ℕ × Misplaced)
+first_misplaced tracks from [] = None
+first_misplaced tracks from (plant ∷ plants) =
+    numbered_or from (misplaced tracks plant) (first_misplaced tracks (from + 1) plants)
+
+-- the first plant of a level that is not on tracks which are there
+abbrev pub level_misplaced : Level → Option (ℕ × Misplaced)
+level_misplaced level = first_misplaced (length (drafts_of level)) 0 level.plants
+
+-- ---- mixes
+
+-- the unit of a mix: its two halves, over each other
+abbrev pub mix_unit : (a b : Entry) → Node
+mix_unit a b = record { body = Tractor (Half a ∷ Half b ∷ []) []; filters = [] }
+
+-- a merge of the halves, over all frames of their mix
+abbrev pub mixer : (frames : ℕ) → MergeSpec → Plant
+mixer frames spec = Between 0 1 spec (span 0 (frames - 1))
+
+-- with one plant more, where it is of tracks
+abbrev pub planted_more : Body → Plant → Body
+planted_more (Source source kind frames) plant = Source source kind frames
+planted_more (Entries entries) plant = Entries entries
+planted_more (Tractor tracks plants) plant = Tractor tracks (plants ++ plant ∷ [])
+
+abbrev pub with_merge : Node → (frames : ℕ) → MergeSpec → Node
+with_merge node frames spec = record node { body = planted_more node.body (mixer frames spec) }
+
+-- the units, with one merge more on a numbered one, which is a mix
+abbrev pub with_mixer : List Node → ℕ → MergeSpec → List Node
+with_mixer nodes unit spec =
+    set nodes unit (with_merge (get_or nodes unit (list_unit [])) (len (tree_of nodes unit)) spec)
+
+-- what a mix is made of: two halves
+pub record IsMixOf (body : Body) : Type 0 where
+  pub a : Entry
+  pub b : Entry
+  pub plants : List Plant
+  pub is : body ≡ Tractor (Half a ∷ Half b ∷ []) plants
+
+-- a numbered unit is there, and is a mix
+pub record IsMix (nodes : List Node) (unit : ℕ) : Type 0 where
+  pub there : unit < length nodes
+  pub mix : IsMixOf (get_or nodes unit (list_unit [])).body
 
 -- ---- filters that are attached
 
@@ -149,9 +238,14 @@ entries_depth depths [] = 0
 entries_depth depths (Clip unit span filters ∷ es) = max (depths unit.0) (entries_depth depths es)
 entries_depth depths (Gap count ∷ es) = entries_depth depths es
 
+-- the entries of a track
+abbrev pub entries_of : TrackOf → List Entry
+entries_of (Playlist entries filters hide) = entries
+entries_of (Half entry) = entry ∷ []
+
 abbrev pub tracks_depth : (ℕ → ℕ) → List TrackOf → ℕ
 tracks_depth depths [] = 0
-tracks_depth depths (track ∷ tracks) = max (entries_depth depths track.entries) (tracks_depth depths tracks)
+tracks_depth depths (track ∷ tracks) = max (entries_depth depths (entries_of track)) (tracks_depth depths tracks)
 
 -- 0 for a source, and one more than the greatest of its members for another unit
 abbrev pub body_depth : (ℕ → ℕ) → Body → ℕ
@@ -177,9 +271,14 @@ pub record AreEntriesBelow (count : ℕ) (entries : List Entry) : Type 0 where
   pub below : All (IsEntryBelow count) entries
   pub ranges : All IsEntry entries
 
+-- the filters of a track
+abbrev pub filters_of : TrackOf → List Attached
+filters_of (Playlist entries filters hide) = filters
+filters_of (Half entry) = []
+
 pub record IsTrackBelow (count : ℕ) (track : TrackOf) : Type 0 where
-  pub entries : AreEntriesBelow count track.entries
-  pub filters : All IsAttached track.filters
+  pub entries : AreEntriesBelow count (entries_of track)
+  pub filters : All IsAttached (filters_of track)
 
 -- a plant is on tracks that are there, and a merge on two of them
 abbrev pub IsOnTracks : ℕ → Plant → Type 0
@@ -188,6 +287,7 @@ IsOnTracks tracks (Between a b spec span) = (a < tracks) × (b < tracks) × (a �
 
 -- the units of a tractor's tracks, and its plants
 pub record IsTractorBelow (count : ℕ) (tracks : List TrackOf) (plants : List Plant) : Type 0 where
+  pub some : 1 ≤ length tracks
   pub tracks_below : All (IsTrackBelow count) tracks
   pub ranges : All IsPlant plants
   pub on_tracks : All (IsOnTracks (length tracks)) plants

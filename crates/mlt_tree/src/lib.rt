@@ -31,7 +31,9 @@ pub use merge::{MergeSpec, MergeStep};
 pub use node::{Body, Node, Track};
 pub use query::QueryKind;
 pub use refusal::{Cause, Refusal};
-pub use row::{Animated, Choice, Count, Distance, Letters, Moment, Number, Property};
-pub use services::{FilterKind, Producer};
+pub use row::{
+    Animated, Area, Choice, Count, Distance, FileName, Letters, Moment, Number, Property, Share,
+};
+pub use services::{FilterKind, MergeKind, Producer};
 pub use table::{OPTIONS, Row};
 pub use tree::{Attached, Hide, Plant, SourceKind};

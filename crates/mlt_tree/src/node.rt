@@ -5,12 +5,17 @@ use crate::lists::{FilterList, ItemList};
 use crate::tree::{Hide, Plant, SourceKind};
 use mlt_base::SourceNo;
 
-/// A track: its entries one after another, and filters on the whole, in the track's positions.
+/// One of the tracks of a unit.
 #[derive(Drop)]
-pub struct Track {
-    pub entries: ItemList<Entry>,
-    pub filters: FilterList,
-    pub hide: Hide,
+pub enum Track {
+    /// Entries one after another, and filters on the whole, in the track's positions.
+    Playlist {
+        entries: ItemList<Entry>,
+        filters: FilterList,
+        hide: Hide,
+    },
+    /// One entry, which gives both media: a half of a mix.
+    Half(Entry),
 }
 
 /// What a unit is made of.
@@ -26,7 +31,8 @@ pub enum Body {
     Entries {
         entries: ItemList<Entry>,
     },
-    /// Tracks over each other, the later ones above, with what is planted on them, in order.
+    /// Tracks over each other, the later ones above, with what is planted on them, in order. A mix is two
+    /// halves over each other, with its merges planted on them.
     Tractor {
         tracks: ItemList<Track>,
         plants: ItemList<Plant>,

@@ -34,6 +34,12 @@ pub enum Cause {
     BadSplit { at: i64, frames: u32 },
     /// A range whose first is behind its last, or whose last is not below the length.
     BadRange { first: u32, last: u32, length: u32 },
+    /// A merge for a mix, where none was made since the track began.
+    NoMix,
+    /// What is planted is on a track that isn't there, of so many.
+    BadTrack { no: u32, tracks: u32 },
+    /// A merge of a track with itself.
+    SameTrack { no: u32 },
     /// Nothing would be played.
     NoProducer,
     /// More than a limit allows.

@@ -54,6 +54,25 @@ pub struct Moment {
     pub name: Name,
 }
 
+/// A number from 0 to 1, which is read in 65536ths; 0 by default.
+#[derive(Clone, Copy, Debug)]
+pub struct Share {
+    pub name: Name,
+}
+
+/// The name of a file, which may be left out.
+#[derive(Clone, Copy, Debug)]
+pub struct FileName {
+    pub name: Name,
+}
+
+/// A place and a size in the frame, with their default as a text.
+#[derive(Clone, Copy, Debug)]
+pub struct Area {
+    pub name: Name,
+    pub default: Name,
+}
+
 /// A property, by the kind of its value.
 #[derive(Clone, Copy, Debug)]
 pub enum Property {
@@ -64,4 +83,7 @@ pub enum Property {
     Animated(Animated),
     Letters(Letters),
     Moment(Moment),
+    Share(Share),
+    FileName(FileName),
+    Area(Area),
 }

@@ -1,6 +1,8 @@
 //! The tables of services and of their properties, which the definitions and the code that reads words share.
 
-use crate::row::{Animated, Choice, Count, Distance, Letters, Moment, Number, Property};
+use crate::row::{
+    Animated, Area, Choice, Count, Distance, FileName, Letters, Moment, Number, Property, Share,
+};
 use mlt_base::Name;
 use mlt_base::limits::MOST_FRAMES;
 
@@ -220,16 +222,77 @@ pub const FILTERS: [FilterRow; 15] = [
     filter!(b"silence      ", Silence),
 ];
 
-/// The merges, in the order in which they are listed.
-pub const MERGES: [Name; 5] = [
-    Name(*b"luma         "),
-    Name(*b"composite    "),
-    Name(*b"matte        "),
-    Name(*b"mix          "),
-    Name(*b"sum          "),
+/// The track that a filter is planted on; the current one where it is left out.
+pub const TRACK: Number = Number {
+    name: Name(*b"track        "),
+    low: 0,
+    high: 255,
+};
+/// The track that a merge changes; the one below the other where it is left out.
+pub const A_TRACK: Number = Number {
+    name: Name(*b"a_track      "),
+    low: 0,
+    high: 255,
+};
+/// The track that a merge takes; the current one where it is left out.
+pub const B_TRACK: Number = Number {
+    name: Name(*b"b_track      "),
+    low: 0,
+    high: 255,
+};
+/// The picture whose dark parts turn first; all parts at once where it is left out.
+pub const RESOURCE: FileName = FileName {
+    name: Name(*b"resource     "),
+};
+/// How wide the edge is between what has turned and what hasn't.
+pub const SOFTNESS: Share = Share {
+    name: Name(*b"softness     "),
+};
+/// Where one picture is laid over another, how large, and how strongly.
+pub const GEOMETRY: Area = Area {
+    name: Name(*b"geometry     "),
+    default: Name(*b"0/0:100%x100%"),
+};
+
+/// What a merge does.
+#[derive(Clone, Copy, Debug, PartialEq, Eq)]
+pub enum MergeKind {
+    Luma,
+    Composite,
+    Matte,
+    Mix,
+    Sum,
+}
+
+/// A merge by its id, with the name of its first property, where it has one.
+#[derive(Clone, Copy, Debug)]
+pub struct MergeRow {
+    pub name: Name,
+    pub kind: MergeKind,
+    pub first: Option<Name>,
+}
+
+/// The row of a merge: its id, its kind, and its first property.
+macro_rules! merge {
+    ($name:literal, $kind:ident) => {
+        MergeRow { name: Name(*$name), kind: MergeKind::$kind, first: None }
+    };
+    ($name:literal, $kind:ident, $first:literal) => {
+        MergeRow { name: Name(*$name), kind: MergeKind::$kind, first: Some(Name(*$first)) }
+    };
+}
+
+/// The merges, in the order in which they are listed. The first three are of pictures, the others of sound.
+pub const MERGES: [MergeRow; 5] = [
+    merge!(b"luma         ", Luma, b"resource     "),
+    merge!(b"composite    ", Composite, b"geometry     "),
+    merge!(b"matte        ", Matte),
+    merge!(b"mix          ", Mix),
+    merge!(b"sum          ", Sum),
 ];
 
-/// The properties of each service, in the order in which they are read, for the manual.
+/// The properties of each service, in the order in which they are read, for the manual; and of the two
+/// options that plant a service on tracks, which are read before those of the service.
 pub const PROPERTIES: &[(&str, &[Property])] = &[
     (
         "colour",
@@ -307,6 +370,22 @@ pub const PROPERTIES: &[(&str, &[Property])] = &[
             Property::Moment(IN),
             Property::Moment(OUT),
             Property::Letters(ORDER),
+        ],
+    ),
+    (
+        "luma",
+        &[Property::FileName(RESOURCE), Property::Share(SOFTNESS)],
+    ),
+    ("composite", &[Property::Area(GEOMETRY)]),
+    ("matte", &[]),
+    ("-filter", &[Property::Number(TRACK)]),
+    (
+        "-transition",
+        &[
+            Property::Number(A_TRACK),
+            Property::Number(B_TRACK),
+            Property::Moment(IN),
+            Property::Moment(OUT),
         ],
     ),
     (

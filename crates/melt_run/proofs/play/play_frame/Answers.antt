@@ -1,7 +1,7 @@
 use Rattle.std.proofs.Common.{rules, ◌≡◌, [], length, All, OnOk, OnErr, sym, ap, ◌∙◌, subst, arith}
 use Rattle.mlt_base.specs.declared.port.Port.TheVariants.{Video}
 use Rattle.mlt_base.specs.declared.profile.Pos.{Pos}
-use Rattle.mlt_frame.specs.Loads.{loads}
+use Rattle.mlt_frame.specs.Loads.{loads, maps}
 use Rattle.mlt_frame.specs.Registers.{regs}
 use Rattle.mlt_frame.specs.Stack.{Stack}
 use Rattle.mlt_graph.specs.Sealed.{tree}
@@ -11,7 +11,7 @@ use Rattle.mlt_pool.specs.Class.{class_of}
 use Rattle.mlt_pool.specs.Counts.{IsOneLent}
 use Rattle.mlt_tree.specs.Show.{pictures}
 use Rattle.melt_run.proofs.Lent.{lends_home}
-use Rattle.melt_run.proofs.Named.{IsThere, loads-there}
+use Rattle.melt_run.proofs.Named.{IsThere, loads-there, maps-there}
 use Rattle.melt_run.proofs.Pictured.{pictured}
 use Rattle.melt_run.proofs.play.play_frame.Goals as goal
 
@@ -24,6 +24,16 @@ keep-requires-clause-there g c =
 pub render-rendered-requires-clause-sources : goal.render-rendered-requires-clause-sources
 render-rendered-requires-clause-sources g c =
     loads-there c.args.table.now (tree c.args.show.now.sealed) c.requires.playable.fits c.start-frame.result.image.ops c.start-frame.ensures.names_image
+
+pub keep-requires-clause-maps : goal.keep-requires-clause-maps
+keep-requires-clause-maps g c =
+    let table = c.args.table.now in
+    let is = c.as_slice.ensures.ops ∙ ap (λ (s : Stack). s.ops) c.image.ensures in
+    subst (λ ops. All (IsThere table) (maps ops)) (sym is) (maps-there table (tree c.args.show.now.sealed) c.requires.playable.fits c.start-frame.result.image.ops c.start-frame.ensures.names_image)
+
+pub render-rendered-requires-clause-maps : goal.render-rendered-requires-clause-maps
+render-rendered-requires-clause-maps g c =
+    maps-there c.args.table.now (tree c.args.show.now.sealed) c.requires.playable.fits c.start-frame.result.image.ops c.start-frame.ensures.names_image
 
 pub render-rendered-requires-clause-at : goal.render-rendered-requires-clause-at
 render-rendered-requires-clause-at g c =

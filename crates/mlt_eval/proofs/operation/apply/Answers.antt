@@ -3,7 +3,7 @@ use Rattle.mlt_base.specs.ProfileView.{measures_of}
 use Rattle.mlt_eval.specs.declared.register.Register.TheVariants.{Nothing}
 use Rattle.mlt_eval.specs.Registers.{register}
 use Rattle.mlt_tree.specs.Show.{pixels_of, pictures_of}
-use Rattle.mlt_eval.proofs.Stepped.{loaded, absent, filtered, kept, put_state}
+use Rattle.mlt_eval.proofs.Stepped.{loaded, absent, filtered, merged, kept, put_state}
 use Rattle.mlt_eval.proofs.operation.apply.Goals as goal
 
 pub returns-in-Load-clause-registers : goal.returns-in-Load-clause-registers
@@ -27,6 +27,13 @@ returns-in-Filter-clause-registers g c =
     let view = register (pixels_of profile * 4) scene.fitted.now.fits in
     filtered (pictures_of profile scene.table.now) (view c.args.blocks.now c.args.states.now) (view c.filter.new.blocks c.filter.new.states) c.args.count c.args.op.now
     c.in-Filter.depth c.in-Filter.step c.in-Filter.is (rw c.in-Filter.is at c.requires.finds) c.filter.ensures.put
+
+pub returns-in-Merge-clause-registers : goal.returns-in-Merge-clause-registers
+returns-in-Merge-clause-registers g c =
+    let scene = c.args.scene.now in let profile = measures_of scene.profile.now in
+    let view = register (pixels_of profile * 4) scene.fitted.now.fits in
+    merged (pictures_of profile scene.table.now) (view c.args.blocks.now c.args.states.now) (view c.merge.new.blocks c.merge.new.states) c.args.count c.args.op.now
+    c.in-Merge.a c.in-Merge.b c.in-Merge.step c.in-Merge.is (rw c.in-Merge.is at c.requires.finds) c.merge.ensures.merged
 
 pub returns-in-Keep-clause-there : goal.returns-in-Keep-clause-there
 returns-in-Keep-clause-there g c = c.keep.ensures.there (length c.args.scene.now.fitted.now.fits) c.requires.there

@@ -4,7 +4,7 @@ use Rattle.mlt_eval.specs.Blocks.{AreBlocks}
 use Rattle.mlt_eval.specs.Registers.{registers, IsThere}
 use Rattle.mlt_eval.specs.Still.{IsStill}
 use Rattle.mlt_frame.specs.Fits.{Fits}
-use Rattle.mlt_frame.specs.Loads.{loads}
+use Rattle.mlt_frame.specs.Loads.{loads, maps}
 use Rattle.mlt_frame.specs.Registers.{regs}
 use Rattle.mlt_tree.specs.Show.{pixels_of, pictures_of}
 use Rattle.mlt_eval.proofs.operation.run.Given as goal
@@ -16,6 +16,7 @@ invariant-loop-op g l = record {
   there : All (IsThere (length l.scene.fitted.now.fits)) l.states;
   fits : Fits (length l.initial.blocks) l.count (drop l.op-index l.ops);
   sources : All (λ source. source < length l.scene.table.now) (loads (drop l.op-index l.ops));
+  maps : All (λ source. source < length l.scene.table.now) (maps (drop l.op-index l.ops));
   registers : regs (pictures_of (measures_of l.scene.profile.now) l.scene.table.now) (registers (pixels_of (measures_of l.scene.profile.now) * 4) l.scene.fitted.now.fits l.blocks l.states l.count) (drop l.op-index l.ops)
       ≡ regs (pictures_of (measures_of l.scene.profile.now) l.scene.table.now) [] l.ops;
   still : All (IsStill l.scene.fitted.now.fits) l.ops → l.blocks ≡ l.initial.blocks;

@@ -1,0 +1,45 @@
+//! A merge at one position of two pictures.
+
+ghost use Rattle.std.specs.Prelude.{◌≡◌, ◌*◌, ◌/◌, ◌%◌, ◌≤◌, length};
+ghost use Rattle.std.specs.Option.{option_copied};
+ghost use Rattle.mlt_tree.specs.Merges.{map_of, picture_merge};
+ghost use Rattle.mlt_tree.specs.Ranges.{IsMergeStep};
+ghost use Rattle.mlt_trans.specs.Maps.{IsMap};
+
+use crate::composite::composite;
+use crate::luma::luma;
+use crate::matte::matte;
+use crate::wipe::wipe;
+use mlt_slice::Bands;
+use mlt_tree::MergeStep;
+
+/// Merges a picture `b` into a picture `a`: from `a` to `b`, or `b` laid over `a`, or how light `b` is as the alpha
+/// of `a`; a merge of sound leaves `a`. Both have `width` pixels a row, 1 to 4096, four bytes a pixel, and the same
+/// number of whole rows, at most 4096. `map` is the picture of the merge's map, of the same size, where it takes
+/// one, else none. `bands` goes through the rows. No memory is taken, and nothing is refused.
+pub fn merge_pictures<B: Bands>(
+    step: &MergeStep,
+    a: &mut [u8],
+    b: &[u8],
+    map: Option<&[u8]>,
+    width: u32,
+    bands: &B,
+)
+    requires range { IsMergeStep step.now }
+    requires width { (1 ≤ width) × (width ≤ 4096) }
+    requires rows { (length a.old % (width * 4) ≡ 0) × (length a.old / (width * 4) ≤ 4096) }
+    requires same { length b.now ≡ length a.old }
+    requires map { IsMap (map_of step.now) (length a.old) (option_copied map) }
+    ensures { a.new ≡ picture_merge step.now (option_copied map.entry) width a.old b.now }
+{
+    match step {
+        MergeStep::Luma { softness, q, .. } => match map {
+            None => luma(a, b, *q, width, bands),
+            Some(map) => wipe(a, b, map, *softness, *q, width, bands),
+        },
+        MergeStep::Composite { geometry } => composite(a, b, geometry, width, bands),
+        MergeStep::Matte => matte(a, b, width, bands),
+        MergeStep::Mix { .. } => {}
+        MergeStep::Sum => {}
+    }
+}

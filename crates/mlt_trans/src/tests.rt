@@ -1,0 +1,136 @@
+//! Small pictures through each merge, as the definitions compute them.
+
+ghost use Rattle.std.specs.Prelude.{◌≡◌, ◌≤◌, None};
+ghost use Rattle.mlt_base.specs.GeometryView.{IsPlacement};
+ghost use Rattle.mlt_tree.specs.Merges.{map_of};
+ghost use Rattle.mlt_tree.specs.Ranges.{IsMergeStep};
+ghost use Rattle.mlt_tree.specs.declared.merge.MergeStep.TheVariants.{Composite};
+
+use super::*;
+use mlt_base::{Geometry, Q16, SourceNo};
+use mlt_slice::Alone;
+use mlt_tree::MergeStep;
+
+/// Opaque red.
+const RED: [u8; 4] = [255, 0, 0, 255];
+
+/// Opaque blue.
+const BLUE: [u8; 4] = [0, 0, 255, 255];
+
+/// What a merge without a map makes of one pixel and another.
+fn one(step: MergeStep, a: [u8; 4], b: [u8; 4]) -> [u8; 4]
+    requires range { IsMergeStep step }
+    requires unmapped { map_of step ≡ None }
+{
+    let mut picture = a;
+    merge_pictures(&step, &mut picture, &b, None, 1, &Alone);
+    picture
+}
+
+/// Four opaque pixels, each of whose colours are one number.
+fn greys(numbers: [u8; 4]) -> [u8; 16] {
+    let mut picture = [255; 16];
+    for k in 0..16 {
+        if k % 4 < 3 {
+            picture[k] = numbers[k / 4];
+        }
+    }
+    picture
+}
+
+/// A geometry.
+fn geometry_of(x: i32, y: i32, width: u32, height: u32, opacity: u8) -> Geometry
+    ensures { result ≡ record { x = x; y = y; width = width; height = height; opacity = opacity } }
+{
+    Geometry {
+        x,
+        y,
+        width,
+        height,
+        opacity,
+    }
+}
+
+/// Two columns and two rows, with others laid over them.
+fn four(geometry: Geometry) -> [u8; 16]
+    requires { IsPlacement geometry }
+{
+    let mut picture = greys([1, 2, 3, 4]);
+    let step = MergeStep::Composite { geometry };
+    merge_pictures(
+        &step,
+        &mut picture,
+        &greys([50, 60, 70, 80]),
+        None,
+        2,
+        &Alone,
+    );
+    picture
+}
+
+/// Two red pixels that turn blue by a map of two greys.
+fn wiped(softness: u32, q: u32, map: [u8; 8]) -> [u8; 8]
+    requires { (softness ≤ 65536) × (q ≤ 65536) }
+{
+    let mut picture = [255, 0, 0, 255, 255, 0, 0, 255];
+    let step = MergeStep::Luma {
+        map: Some(SourceNo(0)),
+        softness: Q16(softness),
+        q: Q16(q),
+    };
+    merge_pictures(
+        &step,
+        &mut picture,
+        &[0, 0, 255, 255, 0, 0, 255, 255],
+        Some(&map),
+        2,
+        &Alone,
+    );
+    picture
+}
+
+#[test]
+fn merges_of_pixels(rt: HostRuntime) {
+    let half = MergeStep::Luma {
+        map: None,
+        softness: Q16(0),
+        q: Q16(32768),
+    };
+    assert_eq!(rt; one(half, RED, BLUE), [128, 0, 128, 255]);
+    assert_eq!(rt;
+        one(MergeStep::Matte, [255, 0, 0, 7], [255, 255, 255, 3]),
+        [255, 0, 0, 255]
+    );
+    assert_eq!(rt; one(MergeStep::Matte, BLUE, RED), [0, 0, 255, 76]);
+    let whole = MergeStep::Composite {
+        geometry: geometry_of(0, 0, 1, 1, 100),
+    };
+    assert_eq!(rt; one(whole, RED, [0, 0, 255, 128]), [127, 0, 128, 255]);
+    assert_eq!(rt; one(MergeStep::Mix { p: 0, len: 1 }, RED, BLUE), RED);
+    assert_eq!(rt; one(MergeStep::Sum, RED, BLUE), RED);
+}
+
+#[test]
+fn rectangles(rt: HostRuntime) {
+    assert_eq!(rt; four(geometry_of(1, 1, 2, 2, 100)), greys([1, 2, 3, 50]));
+    assert_eq!(rt; four(geometry_of(-1, -1, 2, 2, 100)), greys([80, 2, 3, 4]));
+    assert_eq!(rt; four(geometry_of(0, 1, 1, 1, 100)), greys([1, 2, 65, 4]));
+    assert_eq!(rt; four(geometry_of(2, 0, 2, 2, 100)), greys([1, 2, 3, 4]));
+    assert_eq!(rt; four(geometry_of(-1, 0, 3, 1, 100)), greys([65, 70, 3, 4]));
+}
+
+#[test]
+fn maps(rt: HostRuntime) {
+    assert_eq!(rt;
+        wiped(0, 32768, [127, 127, 127, 255, 128, 128, 128, 255]),
+        [0, 0, 255, 255, 255, 0, 0, 255]
+    );
+    assert_eq!(rt;
+        wiped(65536, 16384, [0, 0, 0, 255, 255, 255, 255, 255]),
+        [128, 0, 128, 255, 255, 0, 0, 255]
+    );
+    assert_eq!(rt;
+        wiped(65536, 65536, [0, 0, 0, 255, 255, 255, 255, 255]),
+        [0, 0, 255, 255, 0, 0, 255, 255]
+    );
+}
