@@ -23,3 +23,5 @@ pub use text::{TextJob, melt_text};
 
 #[cfg(test)]
 mod tests;
+#[cfg(test)]
+mod worked_tests;

@@ -1,6 +1,6 @@
 //! A picture in the first bytes of one block.
 
-ghost use Rattle.std.specs.Prelude.{◌≡◌, ◌*◌, ◌<◌, ◌≤◌, true, length, take, slice_get, Some, IfSome, All, option_copied, unwrap_or};
+ghost use Rattle.std.specs.Prelude.{◌≡◌, ◌*◌, ◌<◌, ◌≤◌, true, length, take, slice_get, Some, IfSome, All, option_copied, option_map, unwrap_or};
 ghost use Rattle.mlt_base.specs.Picture.{clear};
 ghost use Rattle.mlt_base.specs.ProfileView.{measures_of};
 ghost use Rattle.mlt_eval.specs.Fitted.{AreFitted, is_fitted};
@@ -10,6 +10,7 @@ ghost use Rattle.mlt_tree.specs.Filters.{picture_filter};
 ghost use Rattle.mlt_tree.specs.Merges.{map_of, picture_merge};
 ghost use Rattle.mlt_tree.specs.Ranges.{IsFilterStep, IsMergeStep};
 ghost use Rattle.mlt_tree.specs.Show.{pixels_of, picture_of};
+ghost use Rattle.mlt_vfilter.specs.Neutral.{is_neutral};
 
 use crate::register::Register;
 use crate::scene::{Scene, fitted_bytes};
@@ -19,7 +20,7 @@ use mlt_slice::Bands;
 use mlt_source::SourceTable;
 use mlt_trans::merge_pictures;
 use mlt_tree::{FilterStep, MergeStep};
-use mlt_vfilter::apply;
+use mlt_vfilter::{apply, leaves};
 
 /// Writes the picture of a source to the first bytes.
 fn load_bytes(table: &SourceTable, profile: &Profile, bytes: &mut [u8], no: SourceNo)
@@ -59,6 +60,39 @@ pub(crate) fn find_or_load(scene: &Scene<'_>, block: &mut Lease, no: SourceNo) -
             load_block(scene.table, scene.profile, block, no);
             Register::Owned
         }
+    }
+}
+
+/// The picture that a register has: a fitted one, or that in the first bytes of its block.
+pub(crate) fn lent<'a>(scene: &'a Scene<'_>, block: &'a Lease, state: Register) -> Option<&'a [u8]>
+    requires fitted { AreFitted (measures_of scene.now.profile.now) scene.now.table.now scene.now.fitted.now.fits }
+    requires there { IsThere (length scene.now.fitted.now.fits) state }
+    requires room { pixels_of (measures_of scene.now.profile.now) * 4 ≤ length block.now }
+    ensures value { option_copied result ≡ held (pixels_of (measures_of scene.now.profile.now) * 4) scene.now.fitted.now.fits block.now state }
+    ensures sized { IfSome (option_copied result) (λ picture. length picture ≡ pixels_of (measures_of scene.now.profile.now) * 4) }
+{
+    match state {
+        Register::Nothing => None,
+        Register::Lent(place) => Some(scene.fitted.pixels(place)),
+        Register::Owned => {
+            let count = fitted_bytes(scene.profile);
+            Some(&block.bytes()[..count])
+        }
+    }
+}
+
+/// Whether a filter leaves what a register has, if it has something.
+pub(crate) fn stays(scene: &Scene<'_>, block: &Lease, state: Register, step: &FilterStep) -> bool
+    requires fitted { AreFitted (measures_of scene.now.profile.now) scene.now.table.now scene.now.fitted.now.fits }
+    requires there { IsThere (length scene.now.fitted.now.fits) state }
+    requires room { pixels_of (measures_of scene.now.profile.now) * 4 ≤ length block.now }
+    ensures same { let old = held (pixels_of (measures_of scene.now.profile.now) * 4) scene.now.fitted.now.fits block.now state in
+        result ≡ true → option_map (picture_filter step.now scene.now.profile.now.width) old ≡ old }
+    ensures neutral { is_neutral step.now ≡ true → result ≡ true }
+{
+    match lent(scene, block, state) {
+        None => true,
+        Some(picture) => leaves(step, picture, scene.profile.width),
     }
 }
 
@@ -106,29 +140,35 @@ fn filter_lent<B: Bands>(
     filter_own(profile, bands, bytes, step);
 }
 
-/// Filters what a register has into its block, in place where it is there.
+/// Filters what a register has into its block, in place where it is there, and answers where it stands then.
 pub(crate) fn filter_block<B: Bands>(
     scene: &Scene<'_>,
     bands: &B,
     block: &mut Lease,
     state: Register,
     step: &FilterStep,
-)
+) -> Register
     requires range { IsFilterStep step.now }
     requires fitted { AreFitted (measures_of scene.now.profile.now) scene.now.table.now scene.now.fitted.now.fits }
     requires there { IsThere (length scene.now.fitted.now.fits) state }
     requires room { pixels_of (measures_of scene.now.profile.now) * 4 ≤ length block.old }
-    ensures picture { IfSome (held (pixels_of (measures_of scene.now.profile.now) * 4) scene.now.fitted.now.fits block.old state) (λ picture. take (pixels_of (measures_of scene.now.profile.now) * 4) block.new ≡ picture_filter step.now scene.now.profile.now.width picture) }
+    ensures there { IsThere (length scene.now.fitted.now.fits) result }
+    ensures picture { let view = held (pixels_of (measures_of scene.now.profile.now) * 4) scene.now.fitted.now.fits in
+        view block.new result ≡ option_map (picture_filter step.now scene.now.profile.now.width) (view block.old state) }
     ensures long { length block.new ≡ length block.old }
 {
     let profile = scene.profile;
     match state {
-        Register::Nothing => {}
+        Register::Nothing => Register::Nothing,
         Register::Lent(place) => {
             let picture = scene.fitted.pixels(place);
             filter_lent(profile, bands, block.bytes_mut(), picture, step);
+            Register::Owned
         }
-        Register::Owned => filter_own(profile, bands, block.bytes_mut(), step),
+        Register::Owned => {
+            filter_own(profile, bands, block.bytes_mut(), step);
+            Register::Owned
+        }
     }
 }
 

@@ -12,31 +12,13 @@ ghost use Rattle.mlt_tree.specs.Ranges.{IsMergeStep};
 ghost use Rattle.mlt_tree.specs.Show.{pixels_of, map_picture};
 ghost use Rattle.mlt_tree.specs.Sources.{numbered};
 
-use crate::block::{find_or_load, merge_block};
+use crate::block::{find_or_load, lent, merge_block};
 use crate::register::Register;
-use crate::scene::{Scene, fitted_bytes};
+use crate::scene::Scene;
 use mlt_base::SourceNo;
 use mlt_pool::Lease;
 use mlt_slice::Bands;
 use mlt_tree::MergeStep;
-
-/// The picture that a register has: a fitted one, or that in the first bytes of its block.
-fn lent<'a>(scene: &'a Scene<'_>, block: &'a Lease, state: Register) -> Option<&'a [u8]>
-    requires fitted { AreFitted (measures_of scene.now.profile.now) scene.now.table.now scene.now.fitted.now.fits }
-    requires there { IsThere (length scene.now.fitted.now.fits) state }
-    requires room { pixels_of (measures_of scene.now.profile.now) * 4 ≤ length block.now }
-    ensures value { option_copied result ≡ held (pixels_of (measures_of scene.now.profile.now) * 4) scene.now.fitted.now.fits block.now state }
-    ensures sized { IfSome (option_copied result) (λ picture. length picture ≡ pixels_of (measures_of scene.now.profile.now) * 4) }
-{
-    match state {
-        Register::Nothing => None,
-        Register::Lent(place) => Some(scene.fitted.pixels(place)),
-        Register::Owned => {
-            let count = fitted_bytes(scene.profile);
-            Some(&block.bytes()[..count])
-        }
-    }
-}
 
 /// The source that a merge takes as its map, where it takes one.
 fn map_of(step: &MergeStep) -> Option<SourceNo>

@@ -14,8 +14,9 @@ ghost use Rattle.mlt_frame.specs.Registers.{apply, regs};
 ghost use Rattle.mlt_tree.specs.Filters.{picture_filter};
 ghost use Rattle.mlt_tree.specs.Ranges.{IsFilterStep};
 ghost use Rattle.mlt_tree.specs.Show.{pixels_of, picture_of, pictures_of};
+ghost use Rattle.mlt_vfilter.specs.Neutral.{is_neutral};
 
-use crate::block::{filter_block, find_or_load};
+use crate::block::{filter_block, find_or_load, stays};
 use crate::merging::merge;
 use crate::register::Register;
 use crate::scene::Scene;
@@ -50,7 +51,7 @@ fn load(
     states[k] = find_or_load(scene, &mut blocks[k], no);
 }
 
-/// Filters what a register has, where it has something.
+/// Filters what a register has, where it has something that isn't left as it is.
 fn filter<B: Bands>(
     scene: &Scene<'_>,
     bands: &B,
@@ -71,13 +72,13 @@ fn filter<B: Bands>(
     ensures put { let bytes = pixels_of (measures_of scene.now.profile.now) * 4 in
         let old = register bytes scene.now.fitted.now.fits blocks.old states.old in
         IsPut old (register bytes scene.now.fitted.now.fits blocks.new states.new) k (option_map (picture_filter step.now scene.now.profile.now.width) (old k)) }
+    ensures still { is_neutral step.now ≡ true → blocks.new ≡ blocks.old }
 {
     let state = states[k];
-    if let Register::Nothing = state {
+    if stays(scene, &blocks[k], state, step) {
         return;
     }
-    filter_block(scene, bands, &mut blocks[k], state, step);
-    states[k] = Register::Owned;
+    states[k] = filter_block(scene, bands, &mut blocks[k], state, step);
 }
 
 /// Gives a register what another one has, which gets its block.

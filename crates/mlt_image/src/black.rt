@@ -1,6 +1,7 @@
 //! Pictures over black.
 //!
-//! A picture goes by blocks of pixels: one that is opaque is packed by moving bytes alone.
+//! A picture goes by blocks of pixels: one that is opaque is packed by moving bytes alone, and one that doesn't
+//! show is black.
 
 ghost use Rattle.std.specs.Prelude.{◌≡◌, ℕ, ◌+◌, ◌*◌, ◌/◌, ◌%◌, ◌<◌, ◌≤◌, length, slice_index};
 ghost use Rattle.mlt_base.specs.Picture.{on_black, over_black};
@@ -47,6 +48,8 @@ fn pack_block(src: &[u8], dst: &mut [u8], from: usize, to: usize)
 {
     if least_alpha(src, from, to) == 255 {
         pack_opaque(src, dst, from, to);
+    } else if most_alpha(src, from, to) == 0 {
+        pack_hidden(src, dst, from, to);
     } else {
         pack_each(src, dst, from, to);
     }
@@ -63,6 +66,32 @@ fn least_alpha(src: &[u8], from: usize, to: usize) -> u8
         least = least.min(pixel_at(src, p * 4).a);
     }
     least
+}
+
+/// The greatest alpha of the pixels `from` to before `to`.
+fn most_alpha(src: &[u8], from: usize, to: usize) -> u8
+    requires order { from ≤ to }
+    requires room { to * 4 ≤ length src.now }
+    ensures hidden { result ≡ 0 → (p : ℕ) → from ≤ p → p < to → slice_index src.now (p * 4 + 3) ≡ 0 }
+{
+    let mut most = 0;
+    for p in from..to {
+        most = most.max(pixel_at(src, p * 4).a);
+    }
+    most
+}
+
+/// Packs the pixels `from` to before `to`, of which none shows.
+fn pack_hidden(_src: &[u8], dst: &mut [u8], from: usize, to: usize)
+    requires order { from ≤ to }
+    requires space { to * 3 ≤ length dst.old }
+    requires hidden { (p : ℕ) → from ≤ p → p < to → slice_index _src.now (p * 4 + 3) ≡ 0 }
+    ensures done { (k : ℕ) → from * 3 ≤ k → k < to * 3 → slice_index dst.new k ≡ packed _src.now k }
+    ensures before { (k : ℕ) → k < from * 3 → slice_index dst.new k ≡ slice_index dst.old k }
+{
+    for k in from * 3..to * 3 {
+        dst[k] = 0;
+    }
 }
 
 /// Packs the pixels `from` to before `to`, whatever their alphas are.

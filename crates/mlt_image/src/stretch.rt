@@ -11,7 +11,7 @@ ghost use Rattle.mlt_base.specs.GeometryView.{IsPlacement};
 ghost use Rattle.mlt_image.specs.Kept.{channels, across_at};
 
 use mlt_base::Geometry;
-use mlt_kernel::pixel::pixel_at;
+use std::simd::u8x4;
 
 /// The place of pixel `at` of so many, along so many pixels of a source, in 65536ths of a pixel.
 pub fn along(pixels: u32, taken: u32, at: u32) -> u32
@@ -67,15 +67,25 @@ fn across_one(pixels: &[u8], width: usize, y: usize, place: u32) -> [u32; 4]
     ensures value { result ≡ channels (across pixels.now width place y) }
     ensures most { (c : ℕ) → slice_index result c ≤ 16711680 }
 {
-    let left = pixel_at(pixels, (y * width + place as usize / 65536) * 4);
-    let right = pixel_at(pixels, (y * width + next(width, place)) * 4);
+    let left = values_at(pixels, (y * width + place as usize / 65536) * 4);
+    let right = values_at(pixels, (y * width + next(width, place)) * 4);
     let share = place % 65536;
     [
-        weighed(share, left.r, right.r),
-        weighed(share, left.g, right.g),
-        weighed(share, left.b, right.b),
-        weighed(share, left.a, right.a),
+        weighed(share, left[0], right[0]),
+        weighed(share, left[1], right[1]),
+        weighed(share, left[2], right[2]),
+        weighed(share, left[3], right[3]),
     ]
+}
+
+/// The four bytes from `at` on, each as a value of its own: four lanes of one load.
+#[inline(always)]
+fn values_at(bytes: &[u8], at: usize) -> [u32; 4]
+    requires { at + 4 ≤ length bytes.now }
+    ensures value { result ≡ channels (λ c. slice_index bytes.now (at + c)) }
+    ensures most { (c : ℕ) → slice_index result c ≤ 255 }
+{
+    u8x4::from_slice(&bytes[at..]).cast::<u32>().to_array()
 }
 
 /// The pixel that follows a place, of so many; the last one has no other behind it.
@@ -88,12 +98,14 @@ fn next(pixels: usize, place: u32) -> usize
 }
 
 /// A share of `z` and the rest of `x`, in 65536ths.
-fn weighed(share: u32, x: u8, z: u8) -> u32
-    requires { share ≤ 65536 }
+fn weighed(share: u32, x: u32, z: u32) -> u32
+    requires share { share ≤ 65536 }
+    requires first { x ≤ 255 }
+    requires second { z ≤ 255 }
     ensures value { result ≡ weighed share x z }
     ensures most { result ≤ 16711680 }
 {
-    x as u32 * (65536 - share) + z as u32 * share
+    x * (65536 - share) + z * share
 }
 
 /// Mixes down between values of two rows, at most 255 * 65536, to the nearest bytes. `share` is that of

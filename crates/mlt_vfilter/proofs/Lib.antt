@@ -7,3 +7,4 @@ pub mod EachRow
 pub mod Turned
 pub mod Squares
 pub mod Cut
+pub mod Neutral

@@ -1,8 +1,9 @@
 //! A filter at one position of a picture.
 
-ghost use Rattle.std.specs.Prelude.{◌≡◌, ◌*◌, ◌/◌, ◌%◌, ◌≤◌, length};
+ghost use Rattle.std.specs.Prelude.{◌≡◌, ◌*◌, ◌/◌, ◌%◌, ◌≤◌, true, length};
 ghost use Rattle.mlt_tree.specs.Filters.{picture_filter};
 ghost use Rattle.mlt_tree.specs.Ranges.{IsFilterStep};
+ghost use Rattle.mlt_vfilter.specs.Neutral.{is_neutral};
 
 use crate::brightness::brightness;
 use crate::crop::{Sides, crop};
@@ -57,5 +58,37 @@ pub fn apply<B: Bands>(step: &FilterStep, picture: &mut [u8], width: u32, bands:
         FilterStep::ChannelCopy { .. } => {}
         FilterStep::ChannelSwap => {}
         FilterStep::Silence => {}
+    }
+}
+
+/// Whether a filter leaves a picture as it is, whatever its bytes are: brightness and opacity at level 1 do, and
+/// so does each filter of sound. The picture isn't looked at.
+pub fn leaves(step: &FilterStep, _picture: &[u8], _width: u32) -> bool
+    ensures value { result ≡ is_neutral step.now }
+    ensures same { result ≡ true → picture_filter step.now _width _picture.now ≡ _picture.now }
+{
+    is_neutral(step)
+}
+
+/// Whether a filter leaves each picture as it is.
+fn is_neutral(step: &FilterStep) -> bool
+    ensures { result ≡ is_neutral step.now }
+{
+    match step {
+        FilterStep::Brightness { level } => level.0 == 65536,
+        FilterStep::Greyscale => false,
+        FilterStep::Invert => false,
+        FilterStep::Mirror { .. } => false,
+        FilterStep::Crop { .. } => false,
+        FilterStep::Threshold { .. } => false,
+        FilterStep::Sepia => false,
+        FilterStep::Obscure { .. } => false,
+        FilterStep::Opacity { level } => level.0 == 65536,
+        FilterStep::SwapChannels { .. } => false,
+        FilterStep::Volume { .. } => true,
+        FilterStep::Mono => true,
+        FilterStep::ChannelCopy { .. } => true,
+        FilterStep::ChannelSwap => true,
+        FilterStep::Silence => true,
     }
 }
