@@ -18,7 +18,7 @@ use mlt_base::{Profile, SourceNo};
 use mlt_pool::Lease;
 use mlt_slice::Bands;
 use mlt_source::SourceTable;
-use mlt_trans::merge_pictures;
+use mlt_trans::{KeptColumns, merge_again};
 use mlt_tree::{FilterStep, MergeStep};
 use mlt_vfilter::{apply, leaves};
 
@@ -212,6 +212,7 @@ fn own_block(scene: &Scene<'_>, block: &mut Lease, state: Register)
 fn merge_picture<B: Bands>(
     profile: &Profile,
     bands: &B,
+    kept: &mut KeptColumns,
     picture: &mut [u8],
     above: &[u8],
     map: Option<&[u8]>,
@@ -223,13 +224,14 @@ fn merge_picture<B: Bands>(
     requires map { IsMap (map_of step.now) (pixels_of (measures_of profile.now) * 4) (option_copied map) }
     ensures { picture.new ≡ picture_merge step.now (option_copied map.entry) profile.now.width picture.old above.now }
 {
-    merge_pictures(step, picture, above, map, profile.width, bands);
+    merge_again(step, picture, above, map, profile.width, kept, bands);
 }
 
 /// Merges a picture into the one in the first bytes.
 fn merge_own<B: Bands>(
     profile: &Profile,
     bands: &B,
+    kept: &mut KeptColumns,
     bytes: &mut [u8],
     above: &[u8],
     map: Option<&[u8]>,
@@ -243,13 +245,14 @@ fn merge_own<B: Bands>(
         ≡ picture_merge step.now (option_copied map.entry) profile.now.width (take (pixels_of (measures_of profile.now) * 4) bytes.old) above.now }
 {
     let count = fitted_bytes(profile);
-    merge_picture(profile, bands, &mut bytes[..count], above, map, step);
+    merge_picture(profile, bands, kept, &mut bytes[..count], above, map, step);
 }
 
 /// Merges a picture into what a register has, in the register's block.
 pub(crate) fn merge_block<B: Bands>(
     scene: &Scene<'_>,
     bands: &B,
+    kept: &mut KeptColumns,
     block: &mut Lease,
     state: Register,
     above: &[u8],
@@ -267,5 +270,5 @@ pub(crate) fn merge_block<B: Bands>(
     ensures long { length block.new ≡ length block.old }
 {
     own_block(scene, block, state);
-    merge_own(scene.profile, bands, block.bytes_mut(), above, map, step);
+    merge_own(scene.profile, bands, kept, block.bytes_mut(), above, map, step);
 }

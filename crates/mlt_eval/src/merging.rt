@@ -18,6 +18,7 @@ use crate::scene::Scene;
 use mlt_base::SourceNo;
 use mlt_pool::Lease;
 use mlt_slice::Bands;
+use mlt_trans::KeptColumns;
 use mlt_tree::MergeStep;
 
 /// The source that a merge takes as its map, where it takes one.
@@ -59,6 +60,7 @@ fn fit_map(scene: &Scene<'_>, block: &mut Lease, step: &MergeStep) -> Register
 fn merge_blocks<B: Bands>(
     scene: &Scene<'_>,
     bands: &B,
+    kept: &mut KeptColumns,
     block: &mut Lease,
     state: Register,
     above: &Lease,
@@ -80,7 +82,7 @@ fn merge_blocks<B: Bands>(
 {
     if let Some(picture) = lent(scene, above, above_state) {
         let map = lent(scene, map, map_state);
-        merge_block(scene, bands, block, state, picture, map, step);
+        merge_block(scene, bands, kept, block, state, picture, map, step);
     }
 }
 
@@ -88,6 +90,7 @@ fn merge_blocks<B: Bands>(
 fn merge_pair<B: Bands>(
     scene: &Scene<'_>,
     bands: &B,
+    kept: &mut KeptColumns,
     blocks: &mut [Lease],
     states: &[Register],
     _size: usize,
@@ -119,6 +122,7 @@ fn merge_pair<B: Bands>(
         merge_blocks(
             scene,
             bands,
+            kept,
             &mut below[a],
             states[a],
             &above[0],
@@ -132,6 +136,7 @@ fn merge_pair<B: Bands>(
         merge_blocks(
             scene,
             bands,
+            kept,
             &mut above[0],
             states[a],
             &below[b],
@@ -147,6 +152,7 @@ fn merge_pair<B: Bands>(
 fn merge_mapped<B: Bands>(
     scene: &Scene<'_>,
     bands: &B,
+    kept: &mut KeptColumns,
     blocks: &mut [Lease],
     states: &[Register],
     _size: usize,
@@ -172,7 +178,7 @@ fn merge_mapped<B: Bands>(
     let (below, above) = blocks.split_at_mut(count);
     let spare = &mut above[0];
     let place = fit_map(scene, spare, step);
-    merge_pair(scene, bands, below, states, _size, a, b, spare, place, step);
+    merge_pair(scene, bands, kept, below, states, _size, a, b, spare, place, step);
 }
 
 /// Puts what register `b` has, where it has something, into register `a` by a merge; `b` has nothing then. There are
@@ -180,6 +186,7 @@ fn merge_mapped<B: Bands>(
 pub(crate) fn merge<B: Bands>(
     scene: &Scene<'_>,
     bands: &B,
+    kept: &mut KeptColumns,
     blocks: &mut [Lease],
     states: &mut [Register],
     _size: usize,
@@ -205,7 +212,7 @@ pub(crate) fn merge<B: Bands>(
     if let Register::Nothing = states[b] {
         return;
     }
-    merge_mapped(scene, bands, blocks, states, _size, count, a, b, step);
+    merge_mapped(scene, bands, kept, blocks, states, _size, count, a, b, step);
     states[a] = Register::Owned;
     states[b] = Register::Nothing;
 }

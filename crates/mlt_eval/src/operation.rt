@@ -24,6 +24,7 @@ use mlt_base::SourceNo;
 use mlt_frame::Op;
 use mlt_pool::Lease;
 use mlt_slice::Bands;
+use mlt_trans::KeptColumns;
 use mlt_tree::FilterStep;
 
 /// Gives a register the picture of a source: the fitted one, where there is one, else in its block.
@@ -99,6 +100,7 @@ fn keep(blocks: &mut [Lease], states: &mut [Register], _size: usize, base: usize
 fn apply<B: Bands>(
     scene: &Scene<'_>,
     bands: &B,
+    kept: &mut KeptColumns,
     blocks: &mut [Lease],
     states: &mut [Register],
     _size: usize,
@@ -140,7 +142,7 @@ fn apply<B: Bands>(
         Op::Merge { a, b, step } => {
             let into = count - 1 - *a as usize;
             let from = count - 1 - *b as usize;
-            merge(scene, bands, blocks, states, _size, count, into, from, step);
+            merge(scene, bands, kept, blocks, states, _size, count, into, from, step);
             count
         }
         Op::Keep { row, count: over } => {
@@ -155,6 +157,7 @@ fn apply<B: Bands>(
 pub(crate) fn run<B: Bands>(
     scene: &Scene<'_>,
     bands: &B,
+    kept: &mut KeptColumns,
     blocks: &mut [Lease],
     states: &mut [Register],
     _size: usize,
@@ -177,6 +180,6 @@ pub(crate) fn run<B: Bands>(
 {
     let mut count = 0;
     for op in ops {
-        count = apply(scene, bands, blocks, states, _size, count, op);
+        count = apply(scene, bands, kept, blocks, states, _size, count, op);
     }
 }

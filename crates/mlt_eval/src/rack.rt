@@ -24,16 +24,19 @@ use mlt_frame::Op;
 use mlt_graph::Pix;
 use mlt_pool::{Lease, Pool, class};
 use mlt_slice::Bands;
+use mlt_trans::KeptColumns;
 use std::alloc::{AllocError, Global};
 use std::marker::Model;
 
-/// Blocks of one size, one for each register of a frame, seen as that size and the bytes of each block.
+/// Blocks of one size, one for each register of a frame, seen as that size and the bytes of each block. The places of
+/// stretched columns are kept beside them, from one frame to the next.
 ///
 /// A rack can't be dropped, since its leases can't: it is spent by [`Rack::end`].
 pub struct Rack {
     size: usize,
     blocks: Vec<Lease>,
     registers: Vec<Register>,
+    columns: KeptColumns,
 }
 
 impl Model for Rack {
@@ -63,6 +66,7 @@ impl Rack {
         ensures err { OnErr result (pool.new ≡ pool.old) }
     {
         let registers = vec![in alloc; Register::Nothing; count as usize]?;
+        let columns = KeptColumns::new(alloc)?;
         let mut blocks = Vec::with_capacity(alloc, count as usize)?;
         if pool.is_home(class::of_length(len)) < count {
             blocks.destroy_empty();
@@ -73,6 +77,7 @@ impl Rack {
             size: len,
             blocks,
             registers,
+            columns,
         }))
     }
 
@@ -99,7 +104,9 @@ impl Rack {
         let size = self.size;
         let states = self.registers.as_mut_slice();
         states.fill(Register::Nothing);
-        run(scene, bands, self.blocks.as_mut_slice(), states, size, ops);
+        let kept = &mut self.columns;
+        let blocks = self.blocks.as_mut_slice();
+        run(scene, bands, kept, blocks, states, size, ops);
         pack_register(scene, &self.blocks[0], self.registers[0], pix, out);
     }
 
@@ -113,6 +120,7 @@ impl Rack {
             size,
             mut blocks,
             registers: _,
+            columns: _,
         } = self;
         bring_blocks(pool, &mut blocks, size);
         blocks.destroy_empty();

@@ -1,10 +1,10 @@
 -- Rows that another picture is laid over.
-use Rattle.std.proofs.Common.{◌≡◌, ℕ, ℤ, ◌+◌, ◌-◌, ◌*◌, ◌/◌, ◌%◌, ◌<◌, ◌≤◌, ◌⊎◌, inl, inr, List, length, get_or, take, drop, Option, None, Some, unsigned_abs, to_z, of_z, w32, refl, sym, ap, ◌∙◌, arith}
+use Rattle.std.proofs.Common.{◌≡◌, ℕ, ℤ, ◌+◌, ◌-◌, ◌*◌, ◌/◌, ◌%◌, ◌<◌, ◌≤◌, ◌⊎◌, inl, inr, List, length, get_or, take, drop, Option, None, Some, unsigned_abs, to_z, of_z, w32, refl, sym, ap, ◌∙◌, arith, length-take, length-drop}
 use Rattle.std.proofs.lemmas.Int.{to_z-of_z, fits_signed_from_abs}
 use Rattle.std.proofs.lemmas.Bool.{cases_lt}
 use Rattle.std.proofs.lemmas.Nat.{row_fits, mod-mul-add}
 use Rattle.std.proofs.lemmas.List.{get_or-take, get_or-drop}
-use Rattle.std.proofs.lemmas.List.FromFn.{length-map-range_with_len}
+use Rattle.std.proofs.lemmas.List.FromFn.{length-map-range_with_len, fill_by_all}
 use Rattle.mlt_base.specs.declared.geometry.Geometry.{Geometry}
 use Rattle.mlt_base.specs.Fitting.{along, spot_at, stretched_at}
 use Rattle.mlt_base.specs.Mixing.{table, alpha_at, strength, laid_channel, laid_over}
@@ -21,7 +21,19 @@ use Rattle.mlt_trans.proofs.Rowwise.{place_of, alpha_row}
 
 -- ---- what is laid over
 
--- the places of the columns that are seen
+-- of the places of all columns, those that are seen
+pub places_seen : (pixels taken skip count : ℕ) (all : List ℕ) → all ≡ table taken (along pixels taken) → skip + count ≤ taken → take count (drop skip all) ≡ places_of pixels taken skip count
+places_seen pixels taken skip count all e room = fill_by_all (λ j. along pixels taken (skip + j)) (take count (drop skip all)) count 0 long each where
+  all_long : length all ≡ taken
+  all_long = ap length e ∙ length-map-range_with_len (along pixels taken) 0 taken
+
+  long : length (take count (drop skip all)) ≡ count
+  long = simp (length-take, length-drop) (omega (arith, all_long))
+
+  each : (k : ℕ) → k < count → get_or (take count (drop skip all)) k 0 ≡ along pixels taken (skip + k)
+  each k lt = get_or-take count (drop skip all) k 0 lt ∙ get_or-drop skip all k 0 ∙ tabled (along pixels taken) taken (skip + k) all e (omega (arith, lt))
+
+-- their places
 places_at : (pixels taken skip count u : ℕ) (places : List ℕ) → places ≡ places_of pixels taken skip count → u < count → get_or places u 0 ≡ along pixels taken (skip + u)
 places_at pixels taken skip count u places e lt = tabled (λ j. along pixels taken (skip + j)) count u places e lt
 

@@ -1,7 +1,7 @@
 //! Composite: one picture laid over the other at a place and a size.
 //!
 //! Only the columns of the rectangle that lie in the frame are stretched, and their places along the picture are
-//! found once for all rows.
+//! found once for all rows, and kept for the next frame.
 
 ghost use Rattle.std.specs.Prelude.{◌≡◌, ℕ, ◌+◌, ◌*◌, ◌/◌, ◌%◌, ◌<◌, ◌≤◌, length, slice_index, IfSome};
 ghost use Rattle.mlt_base.specs.Fitting.{along};
@@ -12,6 +12,7 @@ ghost use Rattle.mlt_slice.specs.Rows.{by_bytes};
 ghost use Rattle.mlt_tree.specs.Merges.{within, composite};
 ghost use Rattle.mlt_trans.specs.Placed.{IsVisible, places_of, laid_row};
 
+use crate::columns::Columns;
 use crate::rows::{EachRow, RowMerge, merge_rows};
 use mlt_base::Geometry;
 use mlt_base::limits::MOST_PIXELS;
@@ -19,9 +20,6 @@ use mlt_image::rows::Rows;
 use mlt_image::stretch::along;
 use mlt_kernel::over::over;
 use mlt_slice::{Bands, RowWork};
-
-/// The most columns of a frame.
-const MOST_COLUMNS: usize = MOST_PIXELS as usize;
 
 /// The most bytes of a row.
 const MOST_BYTES: usize = MOST_PIXELS as usize * 4;
@@ -77,19 +75,6 @@ fn within(start: i32, size: u32, at: u32) -> Option<u32>
         } else {
             None
         }
-    }
-}
-
-/// The places of the rectangle's columns from `skip` on, of `taken`, along so many pixels.
-fn visible_places(pixels: u32, taken: u32, skip: usize, out: &mut [u32])
-    requires some { 1 ≤ pixels }
-    requires few { pixels ≤ 4096 }
-    requires small { taken ≤ 4096 }
-    requires room { skip + length out.old ≤ taken }
-    ensures { out.new ≡ places_of pixels taken skip (length out.old) }
-{
-    for j in 0..out.len() {
-        out[j] = along(pixels, taken, (skip + j) as u32);
     }
 }
 
@@ -215,7 +200,7 @@ impl RowWork for Stretching<'_> {
 }
 
 /// Lays a layer over `a`, a picture of its size, stretched where its rectangle has another one.
-fn lay_over<B: Bands>(a: &mut [u8], layer: Layer, bands: &B)
+fn lay_over<B: Bands>(a: &mut [u8], layer: Layer, columns: &mut Columns, bands: &B)
     requires { length a.old ≡ layer.width * layer.height * 4 }
     ensures { a.new ≡ table (length a.old) (composite layer.entry.geometry layer.entry.width layer.entry.height a.old layer.entry.b.now) }
 {
@@ -225,16 +210,23 @@ fn lay_over<B: Bands>(a: &mut [u8], layer: Layer, bands: &B)
         let merge = Unstretched { layer };
         bands.run(&EachRow { merge, width }, a, row_bytes);
     } else {
-        let mut room = [0; MOST_COLUMNS];
-        let places = &mut room[..layer.columns.count];
-        visible_places(width, layer.geometry.width, layer.columns.skip, places);
+        columns.find(width, layer.geometry.width);
+        let places = columns.seen(layer.columns.skip, layer.columns.count);
         bands.run(&Stretching { layer, places }, a, row_bytes);
     }
 }
 
 /// Lays `b` over `a`, stretched to the rectangle of a geometry, which may lie partly or wholly outside. Both have
-/// `width` pixels a row, 1 to 4096, and the same number of whole rows, at most 4096.
-pub fn composite<B: Bands>(a: &mut [u8], b: &[u8], geometry: &Geometry, width: u32, bands: &B)
+/// `width` pixels a row, 1 to 4096, and the same number of whole rows, at most 4096. The places of the rectangle's
+/// columns are found in `columns`.
+pub(crate) fn composite<B: Bands>(
+    a: &mut [u8],
+    b: &[u8],
+    geometry: &Geometry,
+    width: u32,
+    columns: &mut Columns,
+    bands: &B,
+)
     requires range { IsPlacement geometry.now }
     requires width { (1 ≤ width) × (width ≤ 4096) }
     requires rows { (length a.old % (width * 4) ≡ 0) × (length a.old / (width * 4) ≤ 4096) }
@@ -250,6 +242,6 @@ pub fn composite<B: Bands>(a: &mut [u8], b: &[u8], geometry: &Geometry, width: u
             geometry: *geometry,
             columns: visible(geometry.x, geometry.width, width),
         };
-        lay_over(a, layer, bands);
+        lay_over(a, layer, columns, bands);
     }
 }

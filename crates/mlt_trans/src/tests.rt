@@ -10,6 +10,7 @@ use super::*;
 use mlt_base::{Geometry, Q16, SourceNo};
 use mlt_slice::Alone;
 use mlt_tree::MergeStep;
+use std::alloc::AllocError;
 
 /// Opaque red.
 const RED: [u8; 4] = [255, 0, 0, 255];
@@ -68,6 +69,24 @@ fn four(geometry: Geometry) -> [u8; 16]
     picture
 }
 
+/// The same, by columns that may be kept.
+fn four_again(geometry: Geometry, kept: &mut KeptColumns) -> [u8; 16]
+    requires { IsPlacement geometry }
+{
+    let mut picture = greys([1, 2, 3, 4]);
+    let step = MergeStep::Composite { geometry };
+    merge_again(
+        &step,
+        &mut picture,
+        &greys([50, 60, 70, 80]),
+        None,
+        2,
+        kept,
+        &Alone,
+    );
+    picture
+}
+
 /// Two red pixels that turn blue by a map of two greys.
 fn wiped(softness: u32, q: u32, map: [u8; 8]) -> [u8; 8]
     requires { (softness ≤ 65536) × (q ≤ 65536) }
@@ -117,6 +136,20 @@ fn rectangles(rt: HostRuntime) {
     assert_eq!(rt; four(geometry_of(0, 1, 1, 1, 100)), greys([1, 2, 65, 4]));
     assert_eq!(rt; four(geometry_of(2, 0, 2, 2, 100)), greys([1, 2, 3, 4]));
     assert_eq!(rt; four(geometry_of(-1, 0, 3, 1, 100)), greys([65, 70, 3, 4]));
+}
+
+#[test]
+fn columns_are_kept(rt: HostRuntime) -> Result<(), AllocError> {
+    let mut kept = KeptColumns::new(rt.alloc())?;
+    for _ in 0..2 {
+        for width in 1..12 {
+            let geometry = geometry_of(-1, 0, width, 2, 100);
+            assert_eq!(rt; four_again(geometry, &mut kept), four(geometry));
+        }
+    }
+    let whole = geometry_of(0, 0, 2, 2, 100);
+    assert_eq!(rt; four_again(whole, &mut kept), greys([50, 60, 70, 80]));
+    Ok(())
 }
 
 #[test]

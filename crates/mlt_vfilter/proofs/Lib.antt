@@ -1,9 +1,7 @@
 pub mod Tables
-pub mod Parts
 pub mod EachPixel
 pub mod Shapes
 pub mod EachPlace
-pub mod EachRow
 pub mod Turned
 pub mod Squares
 pub mod Cut

@@ -2,7 +2,7 @@ use Rattle.std.proofs.Common.{◌≡◌, ℕ, ◌+◌, ◌-◌, ◌*◌, length,
 use Rattle.std.proofs.lemmas.List.FromFn.{length-map-range_with_len}
 use Rattle.mlt_base.specs.Mixing.{laid_over}
 use Rattle.mlt_image.proofs.RowsKept.{tabled}
-use Rattle.mlt_trans.proofs.Parts.{put_inside}
+use Rattle.mlt_slice.proofs.Parts.{put_inside}
 use Rattle.mlt_trans.proofs.Laid.{part_laid}
 use Rattle.mlt_trans.proofs.composite.lay.Goals as goal
 

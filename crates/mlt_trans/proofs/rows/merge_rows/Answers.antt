@@ -3,7 +3,7 @@ use Rattle.std.proofs.Math.Nat.{div-mul-le_self}
 use Rattle.std.proofs.lemmas.Nat.{row_fits, le-div}
 use Rattle.mlt_slice.specs.Rows.{by_bytes}
 use Rattle.mlt_slice.proofs.Bytes.{rows_are}
-use Rattle.mlt_trans.proofs.EachRow.{next_done, next_left}
+use Rattle.mlt_slice.proofs.EachRow.{next_done, next_left}
 use Rattle.mlt_trans.proofs.rows.merge_rows.Goals as goal
 
 pub loop-k-preserved : goal.loop-k-preserved

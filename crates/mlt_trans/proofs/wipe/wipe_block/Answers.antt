@@ -1,7 +1,7 @@
 use Rattle.std.proofs.Common.{◌≡◌, ℕ, ◌+◌, ◌-◌, ◌*◌, length, get_or, drop, ap, ◌∙◌, arith, length-take, length-drop}
 use borrow.Rule.Slice.PartMut.{put_mid}
 use Rattle.std.proofs.lemmas.List.{get_or-take, get_or-drop}
-use Rattle.mlt_trans.proofs.Parts.{put_inside}
+use Rattle.mlt_slice.proofs.Parts.{put_inside}
 use Rattle.mlt_trans.proofs.Wiped.{all_turned, none_turned}
 use Rattle.mlt_trans.proofs.wipe.wipe_block.Goals as goal
 

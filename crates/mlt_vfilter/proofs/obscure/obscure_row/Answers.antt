@@ -3,7 +3,7 @@ use Rattle.std.proofs.lemmas.List.{get_or-take, get_or-drop, get_or_append_left,
 use Rattle.mlt_tree.specs.Filters.{corner}
 use Rattle.mlt_vfilter.specs.Places.{runs}
 use Rattle.mlt_vfilter.proofs.Tables.{tabled}
-use Rattle.mlt_vfilter.proofs.Parts.{put_inside}
+use Rattle.mlt_slice.proofs.Parts.{put_inside}
 use Rattle.mlt_vfilter.proofs.Squares.{runs_within, next_row}
 use Rattle.mlt_vfilter.proofs.obscure.obscure_row.Goals as goal
 

@@ -2,7 +2,7 @@ use Rattle.std.proofs.Common.{ℕ, ◌+◌, ◌-◌, ◌*◌, ◌/◌, ◌≤◌
 use Rattle.std.proofs.lemmas.Nat.{row_fits, le-div}
 use Rattle.std.proofs.Math.Nat.{div-mul-le_self}
 use Rattle.mlt_slice.proofs.Bytes.{rows_are}
-use Rattle.mlt_vfilter.proofs.EachRow.{next_done, next_left}
+use Rattle.mlt_slice.proofs.EachRow.{next_done, next_left}
 use Rattle.mlt_vfilter.proofs.rows.filter_rows.Goals as goal
 
 pub loop-k-preserved : goal.loop-k-preserved
