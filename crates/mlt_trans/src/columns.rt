@@ -1,16 +1,16 @@
 //! The places of a rectangle's columns, kept from one merge to the next.
 //!
-//! A picture that is laid over others in frame after frame is stretched by the same columns each time, so their
-//! places are worked out once. What is kept changes no picture: it is looked at by its widths alone.
+//! A picture that is laid over another one in frame after frame is stretched by the same columns each time, so
+//! their places are worked out once. What is kept changes no picture.
 
-ghost use Rattle.std.specs.Prelude.{◌≡◌, ◌+◌, ◌<◌, ◌≤◌, length, true};
+ghost use Rattle.std.specs.Prelude.{◌≡◌, ◌+◌, ◌<◌, ◌≤◌, length, true, false, replicate, slice_index_or, ◌==◌, ◌&&◌, IfOk, IfSome, IfNone};
 ghost use Rattle.mlt_base.specs.Fitting.{along};
 ghost use Rattle.mlt_base.specs.Mixing.{table};
+ghost use Rattle.mlt_trans.specs.Columns.{no_columns, is_kept, with_columns};
 ghost use Rattle.mlt_trans.specs.Placed.{places_of};
 
 use mlt_base::limits::MOST_PIXELS;
 use mlt_image::stretch::places;
-use mlt_tree::MergeStep;
 use std::alloc::{AllocError, Global};
 use std::marker::Model;
 
@@ -56,8 +56,7 @@ impl Columns {
 
     /// Whether it is that of so many columns along so many.
     fn is_of(&self, pixels: u32, taken: u32) -> bool
-        ensures same { result ≡ true → self.now ≡ record { pixels = pixels; taken = taken } }
-        ensures other { self.now ≡ record { pixels = pixels; taken = taken } → result ≡ true }
+        ensures { result ≡ (self.now.pixels == pixels) && (self.now.taken == taken) }
     {
         self.pixels == pixels && self.taken == taken
     }
@@ -94,10 +93,8 @@ impl Columns {
     }
 }
 
-/// The places of the columns of several rectangles: those of eight widths serve from frame to frame, and of more than
-/// eight the oldest are worked out anew.
-///
-/// Contracts see nothing of it, since what it keeps changes no picture.
+/// The places of the columns of several rectangles, seen as their widths and which of them is the oldest: those of
+/// eight widths serve from frame to frame, and of more than eight the oldest make room. No picture depends on it.
 #[derive(Drop)]
 pub struct KeptColumns {
     columns: Vec<Columns>,
@@ -105,18 +102,21 @@ pub struct KeptColumns {
 }
 
 impl Model for KeptColumns {
-    ghost use Rattle.std.specs.Prelude.{◌≡◌, ◌<◌, vec_len};
+    ghost use Rattle.std.specs.Prelude.{◌≡◌, ◌<◌, length};
+    ghost use Rattle.mlt_trans.specs.Columns.{Kept};
 
-    ghost Value = { Unit {0} };
+    ghost Value = { Kept };
 
-    ghost view = { λ k. tt };
+    ghost view = { λ k. record { widths = k.columns.items; oldest = k.oldest } };
 
-    ghost invariant = { λ k. (vec_len k.columns ≡ 8) × (k.oldest < 8) };
+    ghost invariant = { λ k. (length k.columns.items ≡ 8) × (k.oldest < 8) };
 }
 
 impl KeptColumns {
     /// No columns yet, with room for all that are kept.
-    pub fn new(alloc: Global) -> Result<KeptColumns, AllocError> {
+    pub fn new(alloc: Global) -> Result<KeptColumns, AllocError>
+        ensures { IfOk result (λ kept. kept ≡ record { widths = replicate 8 no_columns; oldest = 0 }) }
+    {
         let mut columns = Vec::with_capacity(alloc, MOST_KEPT)?;
         for _ in 0..MOST_KEPT {
             columns.push_reserved(Columns::new());
@@ -124,26 +124,46 @@ impl KeptColumns {
         Ok(KeptColumns { columns, oldest: 0 })
     }
 
-    /// The place of the columns of a merge that stretches one picture of `width` columns; the oldest, where it has none.
-    fn place(&mut self, step: &MergeStep, width: u32) -> usize
-        ensures { result < 8 }
+    /// The columns at a place.
+    pub(crate) fn at(&self, place: usize) -> &Columns
+        requires { place < length self.now.widths }
+        ensures { result.now ≡ slice_index_or self.now.widths place no_columns }
     {
-        let MergeStep::Composite { geometry } = step else {
-            return 0;
-        };
-        for k in 0..MOST_KEPT {
-            if self.columns[k].is_of(width, geometry.width) {
-                return k;
-            }
-        }
-        let place = self.oldest;
-        self.oldest = (place + 1) % MOST_KEPT;
-        place
+        &self.columns[place]
     }
 
-    /// The columns to use for a merge of pictures of `width` columns: its own, where they are kept.
-    pub(crate) fn columns_of(&mut self, step: &MergeStep, width: u32) -> &mut Columns {
-        let place = self.place(step, width);
-        &mut self.columns[place]
+    /// The place of the columns of `taken` along `pixels`. Where they aren't kept they are worked out in place of the
+    /// oldest.
+    pub(crate) fn ask(&mut self, pixels: u32, taken: u32) -> usize
+        requires some { 1 ≤ pixels }
+        requires few { pixels ≤ 4096 }
+        requires small { taken ≤ 4096 }
+        ensures kept { self.new ≡ with_columns (record { pixels = pixels; taken = taken }) self.old }
+        ensures place { result < length self.new.widths }
+        ensures asked { slice_index_or self.new.widths result no_columns ≡ record { pixels = pixels; taken = taken } }
+    {
+        match find(self.columns.as_slice(), pixels, taken) {
+            Some(place) => place,
+            None => {
+                let place = self.oldest;
+                self.columns[place].find(pixels, taken);
+                self.oldest = (place + 1) % MOST_KEPT;
+                place
+            }
+        }
     }
+}
+
+/// The place of the first columns of `taken` along `pixels`. `None` exactly where there are none.
+fn find(columns: &[Columns], pixels: u32, taken: u32) -> Option<usize>
+    ensures some { IfSome result (λ place. (place < length columns.now) × (slice_index_or columns.now place no_columns ≡ record { pixels = pixels; taken = taken })) }
+    ensures kept { IfSome result (λ _. is_kept columns.now (record { pixels = pixels; taken = taken }) ≡ true) }
+    ensures none { IfNone result (is_kept columns.now (record { pixels = pixels; taken = taken }) ≡ false) }
+{
+    for (place, one) in columns.iter().enumerate() {
+        if one.is_of(pixels, taken) {
+            return Some(place);
+        }
+    }
+    None
 }

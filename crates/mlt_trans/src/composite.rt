@@ -200,8 +200,9 @@ impl RowWork for Stretching<'_> {
 }
 
 /// Lays a layer over `a`, a picture of its size, stretched where its rectangle has another one.
-fn lay_over<B: Bands>(a: &mut [u8], layer: Layer, columns: &mut Columns, bands: &B)
-    requires { length a.old ≡ layer.width * layer.height * 4 }
+fn lay_over<B: Bands>(a: &mut [u8], layer: Layer, columns: &Columns, bands: &B)
+    requires size { length a.old ≡ layer.width * layer.height * 4 }
+    requires columns { columns.now ≡ record { pixels = layer.width; taken = layer.geometry.width } }
     ensures { a.new ≡ table (length a.old) (composite layer.entry.geometry layer.entry.width layer.entry.height a.old layer.entry.b.now) }
 {
     let width = layer.width;
@@ -210,27 +211,27 @@ fn lay_over<B: Bands>(a: &mut [u8], layer: Layer, columns: &mut Columns, bands: 
         let merge = Unstretched { layer };
         bands.run(&EachRow { merge, width }, a, row_bytes);
     } else {
-        columns.find(width, layer.geometry.width);
         let places = columns.seen(layer.columns.skip, layer.columns.count);
         bands.run(&Stretching { layer, places }, a, row_bytes);
     }
 }
 
 /// Lays `b` over `a`, stretched to the rectangle of a geometry, which may lie partly or wholly outside. Both have
-/// `width` pixels a row, 1 to 4096, and the same number of whole rows, at most 4096. The places of the rectangle's
-/// columns are found in `columns`.
+/// `width` pixels a row, 1 to 4096, and the same number of whole rows, at most 4096. `columns` has the places of
+/// the rectangle's columns.
 pub(crate) fn composite<B: Bands>(
     a: &mut [u8],
     b: &[u8],
     geometry: &Geometry,
     width: u32,
-    columns: &mut Columns,
+    columns: &Columns,
     bands: &B,
 )
     requires range { IsPlacement geometry.now }
     requires width { (1 ≤ width) × (width ≤ 4096) }
     requires rows { (length a.old % (width * 4) ≡ 0) × (length a.old / (width * 4) ≤ 4096) }
     requires same { length b.now ≡ length a.old }
+    requires columns { columns.now ≡ record { pixels = width; taken = geometry.now.width } }
     ensures { a.new ≡ table (length a.old) (composite geometry.now width (length a.old / 4 / width) a.old b.now) }
 {
     let height = (a.len() / (width as usize * 4)) as u32;

@@ -1,5 +1,5 @@
 use Rattle.mlt_trans.proofs.Rowwise.{own_table}
-use Rattle.mlt_trans.proofs.step.merge_by.Goals as goal
+use Rattle.mlt_trans.proofs.step.merge_pictures.Goals as goal
 
 pub returns-in-Mix : goal.returns-in-Mix
 returns-in-Mix g c = let is = c.in-Mix.is in rw is (own_table c.args.a.now)
