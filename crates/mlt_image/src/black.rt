@@ -1,13 +1,13 @@
 //! Pictures over black.
 //!
-//! A picture goes by blocks of pixels: one that is opaque is packed by moving bytes alone, and one that doesn't
-//! show is black.
+//! A picture goes by blocks of pixels: the colours are moved as they are, which is all where a block is opaque; one
+//! that isn't is packed anew, and is black where it doesn't show.
 
-ghost use Rattle.std.specs.Prelude.{◌≡◌, ℕ, ◌+◌, ◌*◌, ◌/◌, ◌%◌, ◌<◌, ◌≤◌, length, slice_index};
+ghost use Rattle.std.specs.Prelude.{◌≡◌, ℕ, ◌+◌, ◌*◌, ◌/◌, ◌%◌, ◌<◌, ◌≤◌, true, length, slice_index};
 ghost use Rattle.mlt_base.specs.Picture.{on_black, over_black};
 ghost use Rattle.mlt_image.specs.Packed.{packed};
 
-use mlt_kernel::pixel::pixel_at;
+use mlt_kernel::pixel::{alphas, pixel_at};
 use std::simd::u8x16;
 
 /// How many pixels a block has.
@@ -46,39 +46,39 @@ fn pack_block(src: &[u8], dst: &mut [u8], from: usize, to: usize)
     ensures done { (k : ℕ) → from * 3 ≤ k → k < to * 3 → slice_index dst.new k ≡ packed src.now k }
     ensures before { (k : ℕ) → k < from * 3 → slice_index dst.new k ≡ slice_index dst.old k }
 {
-    if least_alpha(src, from, to) == 255 {
-        pack_opaque(src, dst, from, to);
-    } else if most_alpha(src, from, to) == 0 {
+    let (moved, opaque) = move_colours(src, dst, from, to);
+    if opaque {
+        pack_each(src, dst, moved, to);
+    } else if alphas(src, from, to).1 == 0 {
         pack_hidden(src, dst, from, to);
     } else {
         pack_each(src, dst, from, to);
     }
 }
 
-/// The least alpha of the pixels `from` to before `to`.
-fn least_alpha(src: &[u8], from: usize, to: usize) -> u8
+/// Moves the colours of the pixels from `from` on, four at a time, as they are packed where all are opaque, and
+/// answers before which pixel it ends and whether they are. The last ones before `to` may be left. Each four are
+/// stored with four bytes too many, which the next store writes over.
+fn move_colours(src: &[u8], dst: &mut [u8], from: usize, to: usize) -> (usize, bool)
     requires order { from ≤ to }
     requires room { to * 4 ≤ length src.now }
-    ensures opaque { result ≡ 255 → (p : ℕ) → from ≤ p → p < to → slice_index src.now (p * 4 + 3) ≡ 255 }
+    ensures from { from ≤ result.0 }
+    ensures within { result.0 ≤ to }
+    ensures done { result.1 ≡ true → (k : ℕ) → from * 3 ≤ k → k < result.0 * 3 → slice_index dst.new k ≡ packed src.now k }
+    ensures before { (k : ℕ) → k < from * 3 → slice_index dst.new k ≡ slice_index dst.old k }
 {
-    let mut least = 255;
-    for p in from..to {
-        least = least.min(pixel_at(src, p * 4).a);
+    let mut common = u8x16::splat(255);
+    let mut p = from;
+    while p + 4 <= to && p * 3 + 16 <= dst.len() {
+        let four = u8x16::from_slice(&src[p * 4..]);
+        common = common & four;
+        let colours = four.swizzle([0, 1, 2, 4, 5, 6, 8, 9, 10, 12, 13, 14, 3, 7, 11, 15]);
+        colours.copy_to_slice(&mut dst[p * 3..]);
+        p += 4;
     }
-    least
-}
-
-/// The greatest alpha of the pixels `from` to before `to`.
-fn most_alpha(src: &[u8], from: usize, to: usize) -> u8
-    requires order { from ≤ to }
-    requires room { to * 4 ≤ length src.now }
-    ensures hidden { result ≡ 0 → (p : ℕ) → from ≤ p → p < to → slice_index src.now (p * 4 + 3) ≡ 0 }
-{
-    let mut most = 0;
-    for p in from..to {
-        most = most.max(pixel_at(src, p * 4).a);
-    }
-    most
+    let bits = common.to_array();
+    let alpha = bits[3].min(bits[7]).min(bits[11]).min(bits[15]);
+    (p, alpha == 255)
 }
 
 /// Packs the pixels `from` to before `to`, of which none shows.
@@ -108,26 +108,6 @@ fn pack_each(src: &[u8], dst: &mut [u8], from: usize, to: usize)
         dst[p * 3 + 1] = on_black(pixel.g, pixel.a);
         dst[p * 3 + 2] = on_black(pixel.b, pixel.a);
     }
-}
-
-/// Packs the pixels `from` to before `to`, which are opaque, four at a time. Each four are stored with
-/// four bytes too many, which the next store writes over.
-fn pack_opaque(src: &[u8], dst: &mut [u8], from: usize, to: usize)
-    requires order { from ≤ to }
-    requires room { to * 4 ≤ length src.now }
-    requires space { to * 3 ≤ length dst.old }
-    requires opaque { (p : ℕ) → from ≤ p → p < to → slice_index src.now (p * 4 + 3) ≡ 255 }
-    ensures done { (k : ℕ) → from * 3 ≤ k → k < to * 3 → slice_index dst.new k ≡ packed src.now k }
-    ensures before { (k : ℕ) → k < from * 3 → slice_index dst.new k ≡ slice_index dst.old k }
-{
-    let mut p = from;
-    while p + 4 <= to && p * 3 + 16 <= dst.len() {
-        let four = u8x16::from_slice(&src[p * 4..]);
-        let colours = four.swizzle([0, 1, 2, 4, 5, 6, 8, 9, 10, 12, 13, 14, 3, 7, 11, 15]);
-        colours.copy_to_slice(&mut dst[p * 3..]);
-        p += 4;
-    }
-    pack_each(src, dst, p, to);
 }
 
 /// A colour laid over black. The two divisions by 256 are one by 255.

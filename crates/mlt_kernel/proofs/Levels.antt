@@ -5,17 +5,17 @@ use Rattle.std.proofs.lemmas.Bool.{cases_lt}
 use Rattle.mlt_base.specs.Mixing.{lit, scaled}
 
 -- at the level 65536 a byte stays
-lit_same : (c : ℕ) → c ≤ 255 → c ≡ lit 65536 c
+pub lit_same : (c : ℕ) → c ≤ 255 → c ≡ lit 65536 c
 lit_same c le = omega arith
 
 -- both sides of an `if` are the same
-either_same : (b : Bool) (x y : ℕ) → x ≡ y → x ≡ (if b then x else y)
-either_same true x y e = refl
-either_same false x y e = e
+pub either_same : (b : Bool) (x y z : ℕ) → z ≡ x → z ≡ y → z ≡ (if b then x else y)
+either_same true x y z e f = e
+either_same false x y z e f = f
 
 -- so a picture at that level stays
 pub scaled_same : (level : ℕ) (xs : List ℕ) (k : ℕ) → level ≡ 65536 → get_or xs k 0 ≤ 255 → get_or xs k 0 ≡ scaled level xs k
-scaled_same level xs k e le = rw e (either_same (k % 4 == 3) (get_or xs k 0) (lit 65536 (get_or xs k 0)) (lit_same (get_or xs k 0) le))
+scaled_same level xs k e le = rw e (either_same (k % 4 == 3) (get_or xs k 0) (lit 65536 (get_or xs k 0)) (get_or xs k 0) refl (lit_same (get_or xs k 0) le))
 
 -- from the level 16777216 on a colour is 0 or 255
 lit_most : (level c : ℕ) → 16777216 ≤ level → lit 16777216 c ≡ lit level c

@@ -6,7 +6,7 @@
 ghost use Rattle.std.specs.Prelude.{◌≡◌, ℕ, ◌+◌, ◌*◌, ◌/◌, ◌%◌, ◌<◌, ◌≤◌, length, slice_index};
 ghost use Rattle.mlt_base.specs.Mixing.{table, strength, weight, laid, laid_channel, laid_over};
 
-use crate::pixel::{Pixel, pixel_at, put_pixel};
+use crate::pixel::{Pixel, alphas, pixel_at, put_pixel};
 
 /// How many pixels a block has.
 const BLOCK: usize = 256;
@@ -66,23 +66,6 @@ fn copy_pixels(dst: &mut [u8], src: &[u8], from: usize, to: usize)
     ensures after { (k : ℕ) → to * 4 ≤ k → slice_index dst.new k ≡ slice_index dst.old k }
 {
     dst[from * 4..to * 4].copy_from_slice(&src[from * 4..to * 4]);
-}
-
-/// The least and the greatest alpha of the pixels `from` to before `to`.
-fn alphas(xs: &[u8], from: usize, to: usize) -> (u8, u8)
-    requires order { from ≤ to }
-    requires room { to * 4 ≤ length xs.now }
-    ensures opaque { result.0 ≡ 255 → (p : ℕ) → from ≤ p → p < to → slice_index xs.now (p * 4 + 3) ≡ 255 }
-    ensures clear { result.1 ≡ 0 → (p : ℕ) → from ≤ p → p < to → slice_index xs.now (p * 4 + 3) ≡ 0 }
-{
-    let mut least = 255;
-    let mut greatest = 0;
-    for p in from..to {
-        let alpha = pixel_at(xs, p * 4).a;
-        least = least.min(alpha);
-        greatest = greatest.max(alpha);
-    }
-    (least, greatest)
 }
 
 /// Lays over the pixels `from` to before `to`, whatever their alphas are.

@@ -3,7 +3,7 @@
 //! A loop that reads a pixel by [`pixel_at`] and writes it by [`put_pixel`] has one load and one store
 //! for it, so that the compiler makes it go over several pixels at a time.
 
-ghost use Rattle.std.specs.Prelude.{◌≡◌, ◌+◌, ◌/◌, ◌%◌, ◌≤◌, length, slice_index};
+ghost use Rattle.std.specs.Prelude.{◌≡◌, ℕ, ◌+◌, ◌*◌, ◌/◌, ◌%◌, ◌<◌, ◌≤◌, length, slice_index};
 ghost use Rattle.mlt_kernel.specs.Words.{word_of, four};
 
 use std::simd::{u8x4, u32x1};
@@ -64,4 +64,21 @@ pub fn put_pixel(xs: &mut [u8], at: usize, pixel: Pixel)
 {
     let colours = pixel.r as u32 + pixel.g as u32 * 256 + pixel.b as u32 * 65536;
     put_word(xs, at, colours + pixel.a as u32 * 16777216);
+}
+
+/// The least and the greatest alpha of the pixels `from` to before `to`.
+pub fn alphas(xs: &[u8], from: usize, to: usize) -> (u8, u8)
+    requires order { from ≤ to }
+    requires room { to * 4 ≤ length xs.now }
+    ensures opaque { result.0 ≡ 255 → (p : ℕ) → from ≤ p → p < to → slice_index xs.now (p * 4 + 3) ≡ 255 }
+    ensures clear { result.1 ≡ 0 → (p : ℕ) → from ≤ p → p < to → slice_index xs.now (p * 4 + 3) ≡ 0 }
+{
+    let mut least = 255;
+    let mut greatest = 0;
+    for p in from..to {
+        let alpha = pixel_at(xs, p * 4).a;
+        least = least.min(alpha);
+        greatest = greatest.max(alpha);
+    }
+    (least, greatest)
 }

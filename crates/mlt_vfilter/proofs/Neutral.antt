@@ -1,26 +1,18 @@
 -- A neutral filter leaves each picture as it is.
-use Rattle.std.proofs.Common.{◌≡◌, ℕ, ◌%◌, ◌≤◌, ◌==◌, Bool, true, false, if◌then◌else◌, List, length, get_or, refl, sym, arith}
+use Rattle.std.proofs.Common.{◌≡◌, ℕ, ◌%◌, ◌≤◌, ◌==◌, true, false, List, length, get_or, refl, sym}
 use Rattle.std.proofs.lemmas.Bool.{eqb-true}
 use Rattle.std.proofs.lemmas.List.FromFn.{fill_by_all}
 use Rattle.mlt_base.specs.Mixing.{lit, scaled}
-use Rattle.mlt_kernel.proofs.Levels.{scaled_same}
+use Rattle.mlt_kernel.proofs.Levels.{lit_same, either_same, scaled_same}
 use Rattle.mlt_tree.specs.declared.filter.FilterStep.{FilterStep}
 use Rattle.mlt_tree.specs.declared.filter.FilterStep.TheVariants.{Brightness, Greyscale, Invert, Mirror, Crop, Threshold, Sepia, Obscure, Opacity, SwapChannels, Volume, Mono, ChannelCopy, ChannelSwap, Silence}
 use Rattle.mlt_tree.specs.Filters.{opacity, picture_filter}
 use Rattle.mlt_vfilter.specs.Neutral.{is_neutral}
 use Rattle.mlt_vfilter.proofs.Tables.{own_table}
 
--- at the level 65536 an alpha stays
-lit_same : (c : ℕ) → c ≤ 255 → c ≡ lit 65536 c
-lit_same c le = omega arith
-
--- both sides of an `if` are the same
-either_same : (b : Bool) (x y : ℕ) → y ≡ x → y ≡ (if b then x else y)
-either_same true x y e = e
-either_same false x y e = refl
-
+-- at the level 65536 alphas stay
 opacity_same : (level : ℕ) (xs : List ℕ) (k : ℕ) → level ≡ 65536 → get_or xs k 0 ≤ 255 → get_or xs k 0 ≡ opacity level xs k
-opacity_same level xs k e le = rw e (either_same (k % 4 == 3) (lit 65536 (get_or xs k 0)) (get_or xs k 0) (lit_same (get_or xs k 0) le))
+opacity_same level xs k e le = rw e (either_same (k % 4 == 3) (lit 65536 (get_or xs k 0)) (get_or xs k 0) (get_or xs k 0) (lit_same (get_or xs k 0) le) refl)
 
 pub left_as_is : (step : FilterStep) (width : ℕ) (xs : List ℕ) → ((k : ℕ) → get_or xs k 0 ≤ 255) → is_neutral step ≡ true → picture_filter step width xs ≡ xs
 left_as_is (Brightness level) width xs bytes neutral = sym (fill_by_all (scaled level.0 xs) xs (length xs) 0 refl (λ k lt. scaled_same level.0 xs k (eqb-true level.0 65536 neutral) (bytes k)))

@@ -1,5 +1,5 @@
 use Rattle.std.proofs.Common.{ℕ, ◌+◌, ◌*◌, ◌<◌, ◌≤◌, get_or}
-use Rattle.mlt_kernel.proofs.over.alphas.Given as goal
+use Rattle.mlt_kernel.proofs.pixel.alphas.Given as goal
 
 -- no alpha before this one is less than the least or greater than the greatest
 abbrev pub invariant-loop-p : goal.invariant-loop-p

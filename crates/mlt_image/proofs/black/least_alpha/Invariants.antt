@@ -1,6 +1,0 @@
-use Rattle.std.proofs.Common.{ℕ, ◌+◌, ◌*◌, ◌<◌, ◌≤◌, get_or}
-use Rattle.mlt_image.proofs.black.least_alpha.Given as goal
-
--- no alpha before this pixel is less than the least
-abbrev pub invariant-loop-p : goal.invariant-loop-p
-invariant-loop-p l = (q : ℕ) → l.from ≤ q → q < l.p → l.least ≤ get_or l.src (q * 4 + 3) 0
