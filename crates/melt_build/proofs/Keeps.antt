@@ -252,10 +252,10 @@ joined_frames at n unit es fs gs list h = by (ltb 0 n && leb (at + n) (length es
 
 -- ---- mixes
 
--- the parts of a mix, of which each has as many frames
+-- the parts of a mix, of which none has too many frames
 pub record AreParts (count : ℕ) (y : Mixed) : Type 0 where
   pub below : AreEntriesBelow count (y.a ∷ y.b ∷ [])
-  pub frames_are : (frames y.a ≡ y.frames) × (frames y.b ≡ y.frames)
+  pub halves : (frames y.a < 2 ^ 31) × (frames y.b < 2 ^ 31)
   pub some : 1 ≤ y.frames
   pub short : y.frames < 2 ^ 31
 
@@ -281,14 +281,15 @@ mixed_parts_are count at n unit es fs y some list all done =
     let cut_a : Entry = cut a (frames a - m) (frames a) in
     let cut_b : Entry = cut b 0 m in
     let starts : frames a - m < frames a = omega (arith, has, left) in
+    let few : m < 2 ^ 31 = omega (arith, left, first_frames es at a b h.rest h.here, list.short) in
     subst (AreParts count) h.parts (record {
       below = record {
         below = All-cons (IsEntryBelow count) cut_a (cut_b ∷ []) (cut_known count a (frames a - m) (frames a) (has_frame a first) (omega arith) known_a).below (All-cons (IsEntryBelow count) cut_b [] (cut_known count b 0 m has right known_b).below (All-nil (IsEntryBelow count)));
         ranges = All-cons IsEntry cut_a (cut_b ∷ []) (IsEntry-cut a (frames a - m) (frames a) first starts) (All-cons IsEntry cut_b [] (IsEntry-cut b 0 m second has) (All-nil IsEntry));
       };
-      frames_are = (omega (arith, frames-cut a (frames a - m) (frames a) starts, left), omega (arith, frames-cut b 0 m has));
+      halves = (omega (arith, frames-cut a (frames a - m) (frames a) starts, left, few), omega (arith, frames-cut b 0 m has, few));
       some = has;
-      short = omega (arith, left, first_frames es at a b h.rest h.here, list.short);
+      short = few;
     })
 
 -- what is known of the entries is known behind a mix, with the clip of a unit that is there

@@ -1,5 +1,5 @@
 -- Units that are mixes: they stay that, and can be merged.
-use Rattle.std.proofs.Common.{ℕ, ◌≡◌, ◌≢◌, ◌<◌, Bool, true, false, eqb, List, [], ◌∷◌, ◌++◌, length, get_or, set, All, refl, sym, ap, ◌∙◌, subst, arith}
+use Rattle.std.proofs.Common.{ℕ, ◌≡◌, ◌≢◌, ◌<◌, ◌≤◌, Bool, true, false, eqb, List, [], ◌∷◌, ◌++◌, length, get_or, set, All, refl, sym, ap, ◌∙◌, subst, arith}
 use Rattle.std.specs.List.{flat_map}
 use Rattle.std.proofs.lemmas.Bool.Decides.{nat_tests}
 use Rattle.std.proofs.lemmas.Grind.{common_steps, flat_map-append}
@@ -14,8 +14,7 @@ use Rattle.mlt_tree.specs.declared.tree.Attached.{Attached}
 use Rattle.mlt_tree.specs.declared.tree.Plant.{Plant}
 use Rattle.mlt_tree.specs.Show.{Source}
 use Rattle.mlt_tree.specs.Sources.{FitsBody, HasPicture, maps_of, maps_of_merge}
-use Rattle.mlt_tree.specs.Tree.{len}
-use Rattle.mlt_tree.specs.Units.{list_unit, mix_unit, mixer, planted_more, with_merge, with_mixer, with_filter, with_unit_filter, tree_of, IsMix, IsMixOf}
+use Rattle.mlt_tree.specs.Units.{list_unit, mix_unit, mixer, mix_frames, planted_more, with_merge, with_mixer, with_filter, with_unit_filter, IsMix, IsMixOf}
 use Rattle.melt_build.specs.State.{FitsUnits}
 
 longer : (us : List Node) (u : Node) (k : ℕ) → k < length us → k < length (us ++ u ∷ [])
@@ -34,10 +33,10 @@ behind : (us : List Node) (u : Node) (k : ℕ) → k ≡ length us → k < lengt
 behind us u k h = grind (arith, common_steps)
 
 -- the unit of a mix is one
-pub mix_made : (us : List Node) (a b : Entry) (k : ℕ) → k ≡ length us → IsMix (us ++ mix_unit a b ∷ []) k
-mix_made us a b k h = record {
-  there = behind us (mix_unit a b) k h;
-  mix = subst (λ (n : Node). IsMixOf n.body) (sym (get_or_push us (mix_unit a b) (list_unit []) k (sym h))) (record { a = a; b = b; plants = []; is = refl });
+pub mix_made : (us : List Node) (a b : Entry) (frames k : ℕ) → 1 ≤ frames → k ≡ length us → IsMix (us ++ mix_unit a b frames ∷ []) k
+mix_made us a b frames k some h = record {
+  there = behind us (mix_unit a b frames) k h;
+  mix = subst (λ (n : Node). IsMixOf n.body) (sym (get_or_push us (mix_unit a b frames) (list_unit []) k (sym h))) (record { a = a; b = b; frames = frames; plants = []; some = some; is = refl });
 }
 
 -- ---- one unit changed
@@ -81,6 +80,8 @@ planted_mix : (body : Body) (plant : Plant) → IsMixOf body → IsMixOf (plante
 planted_mix body plant h = record {
   a = h.a;
   b = h.b;
+  frames = h.frames;
+  some = h.some;
   plants = h.plants ++ plant ∷ [];
   is = ap (λ body. planted_more body plant) h.is;
 }
@@ -89,12 +90,11 @@ planted_mix body plant h = record {
 pub merge_mixes : (us : List Node) (unit : ℕ) (spec : MergeSpec) (k : ℕ) → IsMix us k → IsMix (with_mixer us unit spec) k
 merge_mixes us unit spec k h =
     let old : Node = get_or us unit (list_unit []) in
-    let frames : ℕ = len (tree_of us unit) in
-    mix_set us unit (with_merge old frames spec) k (planted_mix old.body (mixer frames spec)) h
+    mix_set us unit (with_merge old spec) k (planted_mix old.body (mixer (mix_frames old.body) spec)) h
 
 pub merge_length : (us : List Node) (unit : ℕ) (spec : MergeSpec) → length (with_mixer us unit spec) ≡ length us
 merge_length us unit spec =
-    length-set us unit (with_merge (get_or us unit (list_unit [])) (len (tree_of us unit)) spec)
+    length-set us unit (with_merge (get_or us unit (list_unit [])) spec)
 
 maps_both : (plants : List Plant) (plant : Plant) → flat_map maps_of (plants ++ plant ∷ []) ≡ flat_map maps_of plants ++ maps_of plant
 maps_both plants plant = flat_map-append maps_of plants (plant ∷ []) ∙ ap (λ maps. flat_map maps_of plants ++ maps) (append-nil (maps_of plant))
@@ -108,6 +108,5 @@ planted_fits table (Tractor tracks plants) plant map fits =
 pub merge_fits : (table : List Source) (us : List Node) (unit : ℕ) (spec : MergeSpec) → All (HasPicture table) (maps_of_merge spec) → FitsUnits table us → FitsUnits table (with_mixer us unit spec)
 merge_fits table us unit spec map fits k node below is =
     let old : Node = get_or us unit (list_unit []) in
-    let frames : ℕ = len (tree_of us unit) in
     let inside : k < length us = subst (λ n. k < n) (merge_length us unit spec) below in
-    each_set us unit k (with_merge old frames spec) node (λ n. FitsBody table n.body) inside (λ there. planted_fits table old.body (mixer frames spec) map (fits unit old there (unit_there us unit there))) (λ n here. fits k n inside here) is
+    each_set us unit k (with_merge old spec) node (λ n. FitsBody table n.body) inside (λ there. planted_fits table old.body (mixer (mix_frames old.body) spec) map (fits unit old there (unit_there us unit there))) (λ n here. fits k n inside here) is

@@ -46,7 +46,7 @@ err_or d (Err e) = e
 -- a state with a mix
 abbrev with_mix : meaning.State → Mixed × List Entry → meaning.State
 with_mix s done =
-    record (with_track s done.1) { made = record s.made { units = s.made.units ++ mix_unit done.0.a done.0.b ∷ [] }; last_mix = Some (length s.made.units) }
+    record (with_track s done.1) { made = record s.made { units = s.made.units ++ mix_unit done.0.a done.0.b done.0.frames ∷ [] }; last_mix = Some (length s.made.units) }
 
 -- with other entries in its track
 abbrev pub changed : State → List Entry → State
@@ -145,16 +145,16 @@ mix_done place done old new (Err (Fault fault)) parts is h = let apart : ⊥ = g
 mix_done place done old new (Err Memory) parts is h = let apart : ⊥ = grind arith in absurd apart
 
 -- with a clip of a new unit of two entries that overlap
-pub mixed_composed : (s : State) (units : List Node) (at n : ℕ) (unit : UnitId) (new : List Entry) (parts : MixParts) → 1 ≤ n → IsList s.level.current.entries → IsComposed s → units ≡ s.made.graph ++ mix_unit parts.a parts.b ∷ [] → unit.0 ≡ length s.made.graph → edit.mix at n unit.0 s.level.current.entries ≡ Ok (mixed_view parts, new) → IsComposed (record s { made = record s.made { graph = units }; level = with_entries s.level new; last_mix = Some unit })
+pub mixed_composed : (s : State) (units : List Node) (at n : ℕ) (unit : UnitId) (new : List Entry) (parts : MixParts) → 1 ≤ n → IsList s.level.current.entries → IsComposed s → units ≡ s.made.graph ++ mix_unit parts.a parts.b parts.frames ∷ [] → unit.0 ≡ length s.made.graph → edit.mix at n unit.0 s.level.current.entries ≡ Ok (mixed_view parts, new) → IsComposed (record s { made = record s.made { graph = units }; level = with_entries s.level new; last_mix = Some unit })
 mixed_composed s units at n unit new parts some list composed is number done =
     let graph : List Node = s.made.graph in
-    let u : Node = mix_unit parts.a parts.b in
+    let u : Node = mix_unit parts.a parts.b parts.frames in
     let all : List Node = graph ++ u ∷ [] in
     let es : List Entry = s.level.current.entries in
     let are = mixed_parts_are (length graph) at n unit.0 es new (mixed_view parts) some list composed.level.current done in
     let now : All (IsKnown (length all)) es = all_known_more (length graph) (length all) es (more_units graph u) composed.level.current in
     let known : All (IsKnown (length all)) new = mixed_known (length all) at n unit.0 es new (mixed_view parts) (last_unit_below graph u unit.0 number) are.short now done in
-    unit_composed s u new (Some unit) composed (All-nil (HasPicture s.made.table)) units is known (mix_made graph parts.a parts.b unit.0 number)
+    unit_composed s u new (Some unit) composed (All-nil (HasPicture s.made.table)) units is known (mix_made graph parts.a parts.b parts.frames unit.0 are.some number)
 
 module _ (s : meaning.State) (g : Group) (n : ℕ) (new : List Entry) where
   abbrev asked : Edit Mixed
@@ -172,7 +172,7 @@ module _ (s : meaning.State) (g : Group) (n : ℕ) (new : List Entry) where
       subst (λ f. Fails f (mixed s g n)) (ap (err_or {A = MixParts} refused) is) tt
 
   -- one that is not
-  pub mix_gives : (parts : MixParts) (units : List Node) (unit : ℕ) → asked ≡ Ok (mixed_view parts, new) → units ≡ s.made.units ++ mix_unit parts.a parts.b ∷ [] → unit ≡ length s.made.units → mixed s g n ≡ Ok (record (with_track s new) { made = record s.made { units = units }; last_mix = Some unit })
+  pub mix_gives : (parts : MixParts) (units : List Node) (unit : ℕ) → asked ≡ Ok (mixed_view parts, new) → units ≡ s.made.units ++ mix_unit parts.a parts.b parts.frames ∷ [] → unit ≡ length s.made.units → mixed s g n ≡ Ok (record (with_track s new) { made = record s.made { units = units }; last_mix = Some unit })
   mix_gives parts units unit done is number =
       ap (λ d. at_group g.place d >>= λ done. Ok (with_mix s done)) done
       ∙ ap (λ us. Ok (record (with_track s new) { made = record s.made { units = us }; last_mix = Some (length s.made.units) })) (sym is)

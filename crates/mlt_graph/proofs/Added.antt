@@ -110,9 +110,13 @@ entry-length : (units : ℕ → Tree) (e : Entry) → len (entry_tree units e) �
 entry-length units (Clip unit span filters) = refl
 entry-length units (Gap count) = refl
 
+entry-some : (e : Entry) → IsEntry e → 1 ≤ frames e
+entry-some (Clip unit span filters) range = omega (arith, range.0)
+entry-some (Gap count) range = range
+
 -- a half is of lower units
-half-below : (count : ℕ) (e : Entry) → IsEntryBelow count e → IsEntry e → IsTrackBelow count (Half e)
-half-below count e below range = record {
+half-below : (count : ℕ) (e : Entry) → IsEntryBelow count e → IsEntry e → (n : ℕ) → IsTrackBelow count (Half e n)
+half-below count e below range n = record {
   entries = record {
     below = All-from_recursion (IsEntryBelow count) (e ∷ []) (below, tt);
     ranges = All-from_recursion IsEntry (e ∷ []) (range, tt);
@@ -120,27 +124,29 @@ half-below count e below range = record {
   filters = All-nil IsAttached;
 }
 
-pub mix-below : (count : ℕ) (a b : Entry) → AreEntriesBelow count (a ∷ b ∷ []) → IsBodyBelow count (mix_unit a b).body
-mix-below count a b are =
+pub mix-below : (count : ℕ) (a b : Entry) (n : ℕ) → AreEntriesBelow count (a ∷ b ∷ []) → IsBodyBelow count (mix_unit a b n).body
+mix-below count a b n are =
     let below = recursion_from_All (IsEntryBelow count) (a ∷ b ∷ []) are.below in
     let ranges = recursion_from_All IsEntry (a ∷ b ∷ []) are.ranges in
     record {
       some = omega arith;
-      tracks_below = All-from_recursion (IsTrackBelow count) (Half a ∷ Half b ∷ []) (half-below count a below.0 ranges.0, (half-below count b below.1.0 ranges.1.0, tt));
+      tracks_below = All-from_recursion (IsTrackBelow count) (Half a n ∷ Half b n ∷ []) (half-below count a below.0 ranges.0 n, (half-below count b below.1.0 ranges.1.0 n, tt));
       ranges = All-nil IsPlant;
       on_tracks = All-nil (IsOnTracks 2);
     }
 
--- a mix has as many frames as each half
-pub mix-length : (units : ℕ → Tree) (a b : Entry) (n : ℕ) → frames a ≡ n → frames b ≡ n → 1 ≤ n → n < 2 ^ 31 → HasLength (node_tree units (mix_unit a b))
-mix-length units a b n first second some short = record {
-  some = omega (arith, entry-length units a, entry-length units b, first, second);
-  short = omega (arith, entry-length units a, entry-length units b, first, second);
-}
+-- a mix has as many frames as its longer half
+pub mix-length : (units : ℕ → Tree) (count : ℕ) (a b : Entry) (n : ℕ) → AreEntriesBelow count (a ∷ b ∷ []) → frames a < 2 ^ 31 → frames b < 2 ^ 31 → HasLength (node_tree units (mix_unit a b n))
+mix-length units count a b n are first second =
+    let ranges = recursion_from_All IsEntry (a ∷ b ∷ []) are.ranges in
+    record {
+      some = omega (arith, entry-length units a, entry-some a ranges.0);
+      short = omega (arith, entry-length units a, entry-length units b, first, second);
+    }
 
 -- and the size that is made up of both
-pub mix-size : (us : List Node) (sizes : List Size) (a b : Entry) → IsSized us sizes → AreEntriesBelow (length us) (a ∷ b ∷ [])
-    → mix_size sizes a b ≡ size_of (node_tree (tree_of us) (mix_unit a b)) (body_depth (depth_of us) (mix_unit a b).body)
-mix-size us sizes a b sized are =
+pub mix-size : (us : List Node) (sizes : List Size) (a b : Entry) (n : ℕ) → IsSized us sizes → AreEntriesBelow (length us) (a ∷ b ∷ [])
+    → mix_size sizes a b ≡ size_of (node_tree (tree_of us) (mix_unit a b n)) (body_depth (depth_of us) (mix_unit a b n).body)
+mix-size us sizes a b n sized are =
     let below = recursion_from_All (IsEntryBelow (length sizes)) (a ∷ b ∷ []) (subst (λ (n : ℕ). All (IsEntryBelow n) (a ∷ b ∷ [])) (sym sized.long) are.below) in
-    mix_size-is sizes (tree_of us) (depth_of us) sized.told a b below.0 below.1.0
+    mix_size-is sizes (tree_of us) (depth_of us) sized.told a b n below.0 below.1.0

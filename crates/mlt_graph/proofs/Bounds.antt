@@ -51,7 +51,7 @@ module _ (units : ℕ → Tree) (few : (k : ℕ) → FewOps (units k)) where
 
   track-few : (t : TrackOf) → FewOps (track_tree units t)
   track-few (Playlist entries filters hide) = omega (arith, ops_in-few entries)
-  track-few (Half entry) = entry-few entry
+  track-few (Half entry frames) = entry-few entry
 
   ops_of_rows-few : (ts : List TrackOf) → ops_of_rows (tracks_of units ts) + length ts ≤ 2 * weight_of_rows (tracks_of units ts)
   ops_of_rows-few [] = omega arith
@@ -91,8 +91,8 @@ module _ (units : ℕ → Tree) (depths : ℕ → ℕ) (few : (k : ℕ) → FewB
 
   track-buffers : (t : TrackOf) → need (track_tree units t) ≤ 257 * (entries_depth depths (entries_of t) + 1)
   track-buffers (Playlist entries filters hide) = omega (arith, need_in-few entries)
-  track-buffers (Half (Clip unit span filters)) = omega (arith, few unit.0)
-  track-buffers (Half (Gap frames)) = omega arith
+  track-buffers (Half (Clip unit span filters) frames) = omega (arith, few unit.0)
+  track-buffers (Half (Gap gap) frames) = omega arith
 
   need_of_rows-few : (ts : List TrackOf) → need_of_rows (tracks_of units ts) ≤ 257 * (tracks_depth depths ts + 1)
   need_of_rows-few [] = omega arith

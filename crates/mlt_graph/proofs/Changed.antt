@@ -19,7 +19,7 @@ use Rattle.mlt_tree.specs.declared.tree.Attached.{Attached}
 use Rattle.mlt_tree.specs.Ranges.{IsAttached, IsMerge, IsPlant}
 use Rattle.mlt_tree.specs.Sizes.{need, need_in, need_of_rows}
 use Rattle.mlt_tree.specs.Tree.{Tree, Blank, len, len_in, longest}
-use Rattle.mlt_tree.specs.Units.{list_unit, parts_of, track_tree, tracks_of, body_tree, node_tree, nth_tree, tree_of, with_filter, with_unit_filter, mixer, planted_more, with_merge, body_depth, depth_of, IsOnTracks, IsBodyBelow, IsGraph, IsMixOf}
+use Rattle.mlt_tree.specs.Units.{list_unit, parts_of, track_tree, tracks_of, body_tree, node_tree, nth_tree, tree_of, with_filter, with_unit_filter, mixer, mix_frames, planted_more, with_merge, body_depth, depth_of, IsOnTracks, IsBodyBelow, IsGraph, IsMixOf}
 use Rattle.mlt_graph.specs.Graph.{HasFewTracks, IsBuilt, IsSized}
 use Rattle.mlt_graph.specs.Lists.{starts_in}
 use Rattle.mlt_graph.specs.Sizes.{kept, size_of}
@@ -55,8 +55,8 @@ module _ (f g : ℕ → Tree) (alike : (k : ℕ) → IsAlike (f k) (g k)) where
 
   track-alike : (track : TrackOf) → IsAlike (track_tree f track) (track_tree g track)
   track-alike (Playlist entries filters hide) = record { length = parts-length entries; need = parts-need entries }
-  track-alike (Half (Clip unit span filters)) = record { length = refl; need = (alike unit.0).need }
-  track-alike (Half (Gap frames)) = record { length = refl; need = refl }
+  track-alike (Half (Clip unit span filters) frames) = record { length = refl; need = (alike unit.0).need }
+  track-alike (Half (Gap gap) frames) = record { length = refl; need = refl }
 
   tracks-length : (tracks : List TrackOf) → longest (tracks_of f tracks) ≡ longest (tracks_of g tracks)
   tracks-length [] = refl
@@ -237,10 +237,11 @@ module _ (us : List Node) (unit : ℕ) (there : unit < length us) (sizes : List 
       built-changed us unit (with_filter before filter) refl there (graph.bodies unit before there known)
       (All-push IsAttached before.filters filter (graph.filters unit before there known) range) sizes weights starts built
 
-  pub built-mixed : (frames : ℕ) (spec : MergeSpec) → frames < 2 ^ 31 → IsMixOf before.body → IsMerge spec
-      → IsBuilt (set us unit (with_merge before frames spec)) sizes weights starts
-  built-mixed frames spec short mix range =
+  pub built-mixed : (spec : MergeSpec) → mix_frames before.body < 2 ^ 32 → IsMixOf before.body → IsMerge spec
+      → IsBuilt (set us unit (with_merge before spec)) sizes weights starts
+  built-mixed spec short mix range =
       let graph = built.sized.graph in
-      built-changed us unit (with_merge before frames spec) (ap (λ body. record { body = body; filters = [] }) (bare-planted before.body (mixer frames spec))) there
+      let frames = mix_frames before.body in
+      built-changed us unit (with_merge before spec) (ap (λ body. record { body = body; filters = [] }) (bare-planted before.body (mixer frames spec))) there
       (planted-below unit before.body (mixer frames spec) mix (range, omega arith, omega (arith, short)) (omega arith, omega arith, omega arith) (graph.bodies unit before there known))
       (graph.filters unit before there known) sizes weights starts built

@@ -129,8 +129,8 @@ module _ (table : List Size) (units : ℕ → Tree) (depths : ℕ → ℕ) (tell
   entry-alone (Clip unit span filters) = omega arith
   entry-alone (Gap frames) = omega arith
 
-  pub mix_size-is : (a b : Entry) → IsEntryBelow (length table) a → IsEntryBelow (length table) b → mix_size table a b ≡ unit_size (mix_unit a b)
-  mix_size-is a b a_below b_below =
+  pub mix_size-is : (a b : Entry) (frames : ℕ) → IsEntryBelow (length table) a → IsEntryBelow (length table) b → mix_size table a b ≡ unit_size (mix_unit a b frames)
+  mix_size-is a b frames a_below b_below =
       ap (λ s. tractor_size 2 (over_size s (entry_size table b))) (entry_size-is a a_below)
       ∙ ap (λ s. tractor_size 2 (over_size (size_of (entry_tree units a) (entry_depth a)) s)) (entry_size-is b b_below)
       ∙ same_size _ _ (omega arith) (omega arith) (omega (arith, entry-alone a, entry-alone b))

@@ -114,7 +114,7 @@ module _ (count : ℕ) (f g : ℕ → Tree) (agree : Agree count f g) where
   track_tree-agree : (track : TrackOf) → IsTrackBelow count track → track_tree f track ≡ track_tree g track
   track_tree-agree (Playlist entries filters hide) below =
       ap (λ parts. With (Seq parts) filters) (parts_of-agree entries (recursion_from_All (IsEntryBelow count) entries below.entries.below))
-  track_tree-agree (Half entry) below =
+  track_tree-agree (Half entry frames) below =
       entry_tree-agree entry (recursion_from_All (IsEntryBelow count) (entry ∷ []) below.entries.below).0
 
   tracks_of-agree : (tracks : List TrackOf) → AllByRecursion (IsTrackBelow count) tracks → tracks_of f tracks ≡ tracks_of g tracks

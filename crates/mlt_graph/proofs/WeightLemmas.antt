@@ -76,7 +76,7 @@ module _ (table : List Weight) (units : ℕ → Tree) (count : ℕ) (weighs : We
   track_weight-is (Playlist entries filters hide) below =
       ap (with_filters (length filters)) (entries_weight-is entries below.entries.below)
       ∙ same_weight _ _ (omega arith) (omega arith)
-  track_weight-is (Half entry) below =
+  track_weight-is (Half entry frames) below =
       entry_weight-is entry (recursion_from_All (IsEntryBelow count) (entry ∷ []) below.entries.below).0
 
   -- the weight of tracks

@@ -46,7 +46,7 @@ together a b = record { weight = kept (a.weight + b.weight); ops = kept (a.ops +
 
 abbrev pub track_weight : List Weight → Track → Weight
 track_weight table (Playlist entries filters hide) = with_filters (length filters) (entries_weight table entries)
-track_weight table (Half entry) = entry_weight table entry
+track_weight table (Half entry frames) = entry_weight table entry
 
 abbrev pub tracks_weight : List Weight → List Track → Weight
 tracks_weight table tracks = fold (λ w track. together w (track_weight table track)) weightless tracks

@@ -145,38 +145,37 @@ impl Graph {
         }
     }
 
-    /// Adds the unit of a mix: its two parts over each other, of which no merge makes one yet. After want of
-    /// memory the graph is as it was.
+    /// Adds the unit of a mix over so many frames: its two parts over each other, each with its own frames, of
+    /// which no merge makes one yet. After want of memory the graph is as it was.
     pub fn add_mix(&mut self, parts: MixParts) -> Result<UnitId, AllocError>
         requires below { AreEntriesBelow (length self.old) (parts.a ∷ parts.b ∷ []) }
-        requires frames { (frames parts.a ≡ parts.frames) × (frames parts.b ≡ parts.frames) }
         requires some { 1 ≤ parts.frames }
         requires short { parts.frames < 2 ^ 31 }
-        ensures ok { OnOk result (self.new ≡ self.old ++ mix_unit parts.a parts.b ∷ []) }
+        requires halves { (frames parts.a < 2 ^ 31) × (frames parts.b < 2 ^ 31) }
+        ensures ok { OnOk result (self.new ≡ self.old ++ mix_unit parts.a parts.b parts.frames ∷ []) }
         ensures id { IfOk result (λ id. id.0 ≡ length self.old) }
         ensures err { OnErr result (self.new ≡ self.old) }
     {
         let MixParts { a, b, frames } = parts;
         let size = size_of_mix(&self.sizes, &a, &b);
         let alloc = *self.nodes.allocator();
-        let starts = both_starts(alloc, frames)?;
+        let starts = both_starts(alloc, &a, &b)?;
         let body = Body::Tractor {
-            tracks: halves(alloc, a, b)?,
+            tracks: halves(alloc, a, b, frames)?,
             plants: ItemList::new(alloc),
         };
         self.add(body, size, starts)
     }
 
-    /// Adds a merge to a mix, over all its frames, which acts after those that it has. After want of memory the
-    /// graph is as it was.
+    /// Adds a merge to a mix, over as many frames as the mix was added with, which acts after those that it has.
+    /// After want of memory the graph is as it was.
     pub fn add_mixer(&mut self, unit: UnitId, spec: MergeSpec) -> Result<(), AllocError>
         requires mix { IsMix self.old unit.0 }
         requires range { IsMerge spec }
         ensures ok { OnOk result (self.new ≡ with_mixer self.old unit.0 spec) }
         ensures err { OnErr result (self.new ≡ self.old) }
     {
-        let frames = self.length_of(unit);
-        push_mixer(&mut self.nodes[unit.0 as usize], spec, frames)?;
+        push_mixer(&mut self.nodes[unit.0 as usize], spec)?;
         Ok(())
     }
 

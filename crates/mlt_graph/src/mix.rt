@@ -1,15 +1,18 @@
 //! The unit of a mix: two halves over each other, and the merges of them.
 
 ghost use Rattle.std.specs.Prelude.{◌≡◌, ◌≤◌, ◌<◌, ◌^◌, [], ◌∷◌, length, IfOk, OnOk, OnErr};
-ghost use Rattle.mlt_tree.specs.Units.{with_merge, AreEntriesBelow};
+ghost use Rattle.mlt_tree.specs.Ranges.{IsEntry, frames};
+ghost use Rattle.mlt_tree.specs.Units.{mix_frames, with_merge, AreEntriesBelow};
 ghost use Rattle.mlt_tree.specs.declared.node.Track.TheVariants.{Half};
 ghost use Rattle.mlt_graph.specs.Sizes.{mix_size};
 
 use crate::size::Size;
 use mlt_base::{Pos, Span};
 use mlt_index::Starts;
+use mlt_playlist::starts_of;
 use mlt_tree::{Body, Entry, ItemList, MergeSpec, Node, Plant, Track};
 use std::alloc::{AllocError, Global};
+use std::slice::from_ref;
 
 /// The size of the mix of two entries, whose units are in the table.
 pub(crate) fn size_of_mix(table: &[Size], a: &Entry, b: &Entry) -> Size
@@ -20,46 +23,59 @@ pub(crate) fn size_of_mix(table: &[Size], a: &Entry, b: &Entry) -> Size
     lower.under(Size::of_entry(table, b)).tractor(2)
 }
 
-/// The tracks of a mix.
-pub(crate) fn halves(alloc: Global, a: Entry, b: Entry) -> Result<ItemList<Track>, AllocError>
-    ensures { IfOk result (λ tracks. tracks ≡ Half a ∷ Half b ∷ []) }
+/// The tracks of a mix over so many frames.
+pub(crate) fn halves(
+    alloc: Global,
+    a: Entry,
+    b: Entry,
+    frames: u32,
+) -> Result<ItemList<Track>, AllocError>
+    ensures { IfOk result (λ tracks. tracks ≡ Half a frames ∷ Half b frames ∷ []) }
 {
     let mut tracks = Vec::with_capacity(alloc, 2)?;
-    tracks.push(Track::Half(a))?;
-    tracks.push(Track::Half(b))?;
+    tracks.push(Track::Half { entry: a, frames })?;
+    tracks.push(Track::Half { entry: b, frames })?;
     Ok(ItemList::from_vec(tracks))
 }
 
-/// Where the entry of a half begins that has so many frames.
-fn start(alloc: Global, frames: u32) -> Result<Starts, AllocError>
-    requires some { 1 ≤ frames }
-    requires short { frames < 2 ^ 31 }
-    ensures { IfOk result (λ starts. starts ≡ frames ∷ []) }
-{
-    let mut starts = Starts::new(alloc);
-    starts.replace(0, 0, &[frames])?;
-    Ok(starts)
-}
-
-/// Where the entries of the halves begin that have so many frames each.
-pub(crate) fn both_starts(alloc: Global, frames: u32) -> Result<ItemList<Starts>, AllocError>
-    requires some { 1 ≤ frames }
-    requires short { frames < 2 ^ 31 }
-    ensures { IfOk result (λ list. list ≡ (frames ∷ []) ∷ (frames ∷ []) ∷ []) }
+/// Where the entries of the halves begin.
+pub(crate) fn both_starts(
+    alloc: Global,
+    a: &Entry,
+    b: &Entry,
+) -> Result<ItemList<Starts>, AllocError>
+    requires ranges { IsEntry a.now × IsEntry b.now }
+    requires short { (frames a.now < 2 ^ 31) × (frames b.now < 2 ^ 31) }
+    ensures { IfOk result (λ list. list ≡ (frames a.now ∷ []) ∷ (frames b.now ∷ []) ∷ []) }
 {
     let mut list = Vec::with_capacity(alloc, 2)?;
-    list.push(start(alloc, frames)?)?;
-    list.push(start(alloc, frames)?)?;
+    list.push(starts_of(alloc, from_ref(a))?)?;
+    list.push(starts_of(alloc, from_ref(b))?)?;
     Ok(ItemList::from_vec(list))
 }
 
-/// Puts a merge of the halves of a unit of so many frames behind what is planted on them. A unit that is not of
-/// tracks stays as it is.
-pub(crate) fn push_mixer(node: &mut Node, spec: MergeSpec, frames: u32) -> Result<(), AllocError>
-    requires { 1 ≤ frames }
-    ensures ok { OnOk result (node.new ≡ with_merge node.old frames spec) }
-    ensures err { OnErr result (node.new ≡ node.old) }
+/// Over how many frames a mix is, as its first half says, and 0 of any other unit.
+fn mix_frames(body: &Body) -> u32
+    ensures { result ≡ mix_frames body.now }
 {
+    let Body::Tractor { tracks, .. } = body else {
+        return 0;
+    };
+    match tracks.item(0) {
+        Some(Track::Half { frames, .. }) => *frames,
+        _ => 0,
+    }
+}
+
+/// Puts a merge of the halves of a mix, over as many frames as the mix is, behind what is planted on them. A unit
+/// that is not of tracks stays as it is.
+pub(crate) fn push_mixer(node: &mut Node, spec: MergeSpec) -> Result<(), AllocError>
+    requires { 1 ≤ mix_frames node.old.body }
+    ensures ok { OnOk result (node.new ≡ with_merge node.old spec) }
+    ensures err { OnErr result (node.new ≡ node.old) }
+    ensures short { mix_frames node.old.body < 2 ^ 32 }
+{
+    let frames = mix_frames(&node.body);
     let Body::Tractor { plants, .. } = &mut node.body else {
         return Ok(());
     };

@@ -217,11 +217,17 @@ fn plants_on_tracks_that_are_there(rt: HostRuntime) -> Result<(), Fail> {
     Ok(())
 }
 
-/// A mix of a gap and the first frames of a unit.
-fn mix_of(graph: &mut Graph, alloc: Global, unit: UnitId, frames: u32) -> Result<UnitId, AllocError>
+/// A mix of a gap and the first frames of a unit, over those frames.
+fn mix_of(
+    graph: &mut Graph,
+    alloc: Global,
+    gap: u32,
+    unit: UnitId,
+    frames: u32,
+) -> Result<UnitId, AllocError>
     requires there { unit.0 < length graph.old }
-    requires some { 1 ≤ frames }
-    requires short { frames < 2 ^ 31 }
+    requires some { (1 ≤ gap) × (1 ≤ frames) }
+    requires short { (gap < 2 ^ 31) × (frames < 2 ^ 31) }
     ensures { IfOk result (λ id. IsMix graph.new id.0) }
 {
     let b = Entry::Clip {
@@ -230,24 +236,28 @@ fn mix_of(graph: &mut Graph, alloc: Global, unit: UnitId, frames: u32) -> Result
         filters: FilterList::new(alloc),
     };
     graph.add_mix(MixParts {
-        a: Entry::Gap { frames },
+        a: Entry::Gap { frames: gap },
         b,
         frames,
     })
 }
 
-/// A mix of a source of two frames with a merge.
-fn tell_mix(alloc: Global) -> Result<Result<(u32, u32, u32), GraphFault>, AllocError> {
+/// A mix of a gap and a source of two frames, over those frames, with a merge.
+fn tell_mix(alloc: Global, gap: u32) -> Result<Result<(u32, u32, u32), GraphFault>, AllocError>
+    requires some { 1 ≤ gap }
+    requires short { gap < 2 ^ 31 }
+{
     let mut graph = Graph::new(alloc);
     let source = graph.add_source(SourceNo(0), SourceKind::Colour, 2)?;
-    let mix = mix_of(&mut graph, alloc, source, 2)?;
+    let mix = mix_of(&mut graph, alloc, gap, source, 2)?;
     graph.add_mixer(mix, MergeSpec::Mix)?;
     Ok(numbers_of(graph, mix))
 }
 
 #[test]
 fn seals_a_mix(rt: HostRuntime) -> Result<(), Fail> {
-    assert_eq!(rt; tell_mix(rt.alloc())?, Ok((2, 3, 4)));
+    assert_eq!(rt; tell_mix(rt.alloc(), 2)?, Ok((2, 3, 4)));
+    assert_eq!(rt; tell_mix(rt.alloc(), 3)?, Ok((3, 3, 4)));
     Ok(())
 }
 

@@ -107,7 +107,7 @@ impl Weight {
                 filters,
                 ..
             } => Weight::of_entries(table, entries.as_slice()).with_filters(filters.count()),
-            Track::Half(entry) => Weight::of_entry(table, entry),
+            Track::Half { entry, .. } => Weight::of_entry(table, entry),
         }
     }
 

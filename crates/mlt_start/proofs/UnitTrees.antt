@@ -48,7 +48,7 @@ module _ (units : ℕ → Tree) (each : (k : ℕ) → IsPlanted (units k)) where
 
   track-planted : (track : TrackOf) → IsPlanted (track_tree units track)
   track-planted (Playlist entries filters hide) = parts-planted entries
-  track-planted (Half entry) = entry-planted entry
+  track-planted (Half entry frames) = entry-planted entry
 
   tracks-planted : (tracks : List TrackOf) → ArePlantedTracks (tracks_of units tracks)
   tracks-planted [] = tt
@@ -90,7 +90,7 @@ module _ (units : ℕ → Tree) (each : (k : ℕ) → IsRanged (units k)) where
   track-ranged : (count : ℕ) (track : TrackOf) → IsTrackBelow count track → IsRanged (track_tree units track)
   track-ranged count (Playlist entries filters hide) h =
       (parts-ranged entries (recursion_from_All IsEntry entries h.entries.ranges), h.filters)
-  track-ranged count (Half entry) h = entry-ranged entry (recursion_from_All IsEntry (entry ∷ []) h.entries.ranges).0
+  track-ranged count (Half entry frames) h = entry-ranged entry (recursion_from_All IsEntry (entry ∷ []) h.entries.ranges).0
 
   tracks-ranged : (count : ℕ) (tracks : List TrackOf) → AllByRecursion (IsTrackBelow count) tracks → AreRangedTracks (tracks_of units tracks)
   tracks-ranged count [] h = tt

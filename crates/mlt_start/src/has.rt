@@ -63,7 +63,9 @@ fn has_track(sealed: &Sealed, asked: Asked, unit: usize, row: usize, track: &Tra
             !is_hidden(asked, *hide)
                 && has_entries(sealed, asked, unit, row, entries.as_slice(), at)
         }
-        Track::Half(entry) => { is_inside(entry, at) && has_entry(sealed, asked, unit, entry, at) }
+        Track::Half { entry, .. } => {
+            is_inside(entry, at) && has_entry(sealed, asked, unit, entry, at)
+        }
     }
 }
 

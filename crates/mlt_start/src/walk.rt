@@ -115,7 +115,7 @@ fn push_track(
             put_filters(filters.as_slice(), at, stack);
             true
         }
-        Track::Half(entry) => {
+        Track::Half { entry, .. } => {
             is_inside(entry, at) && push_entry(sealed, asked, unit, entry, at, stack)
         }
     }

@@ -52,7 +52,7 @@ module _ (table : List show.Source) where
 
     fits_track : (track : Track) → Fits table (track_tree units track)
     fits_track (Playlist entries filters hide) = record { sources = (fits_parts entries).sources; maps = (fits_parts entries).maps }
-    fits_track (Half entry) = fits_entry entry
+    fits_track (Half entry frames) = fits_entry entry
 
     fits_tracks : (tracks : List Track) → FitsTracks (tracks_of units tracks)
     fits_tracks [] = record { sources = All-nil (HasSource table); maps = All-nil (HasPicture table) }

@@ -70,7 +70,7 @@ hides_the_track = refl
 
 -- the last two frames of the first and the first two of the second overlap, by unit 1
 mixes : mix (over [] two_clips) (word (codes "2") []) ≡ Ok (record (over [] (clip 0 0 0 [] ∷ clip 1 0 1 [] ∷ clip 0 7 7 [] ∷ [])) {
-  made = record { units = source_unit (record { 0 = 0 }) Colour 15000 ∷ mix_unit (clip 0 1 2 []) (clip 0 5 6 []) ∷ []; sources = []; loaded = 0; words = 9 };
+  made = record { units = source_unit (record { 0 = 0 }) Colour 15000 ∷ mix_unit (clip 0 1 2 []) (clip 0 5 6 []) 2 ∷ []; sources = []; loaded = 0; words = 9 };
   last_mix = Some 1;
 })
 unfolding mix counted whole digits_to_end digits_at end_at positive below held

@@ -38,7 +38,7 @@ begin_track video audio s g = do
 abbrev pub mixed : State → Group → ℕ → Result State Refusal
 mixed s g n = do
   done ← at_group g.place (edit.mix (length (track s) - 2) n (length s.made.units) (track s))
-  Ok (record (with_track s done.1) { made = record s.made { units = s.made.units ++ mix_unit done.0.a done.0.b ∷ [] }; last_mix = Some (length s.made.units) })
+  Ok (record (with_track s done.1) { made = record s.made { units = s.made.units ++ mix_unit done.0.a done.0.b done.0.frames ∷ [] }; last_mix = Some (length s.made.units) })
 
 unfoldable pub mix : State → Group → Result State Refusal
 mix s g = counted 1 MOST_FRAMES g.place g.arg >>= mixed s g

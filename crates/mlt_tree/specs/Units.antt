@@ -25,7 +25,7 @@ use Rattle.mlt_tree.specs.declared.tree.Plant.TheVariants.{OnTrack, Between}
 use Rattle.mlt_tree.specs.declared.tree.SourceKind.{SourceKind}
 use Rattle.mlt_tree.specs.Edits.{frames_in}
 use Rattle.mlt_tree.specs.Ranges.{IsAttached, IsEntry, IsPlant}
-use Rattle.mlt_tree.specs.Tree.{Tree, Parts, Tracks, Src, Blank, Part, Seq, With, Rows, End, Then, NoTrack, Track, len}
+use Rattle.mlt_tree.specs.Tree.{Tree, Parts, Tracks, Src, Blank, Part, Seq, With, Rows, End, Then, NoTrack, Track}
 
 -- the unit of a source of so many frames
 abbrev pub source_unit : SourceNo → SourceKind → ℕ → Node
@@ -46,7 +46,7 @@ parts_of units (e ∷ es) = Then (entry_tree units e) (parts_of units es)
 
 abbrev pub track_tree : (ℕ → Tree) → TrackOf → Tree
 track_tree units (Playlist entries filters hide) = With (Seq (parts_of units entries)) filters
-track_tree units (Half entry) = entry_tree units entry
+track_tree units (Half entry frames) = entry_tree units entry
 
 -- gives both media
 abbrev pub seen : Hide
@@ -55,7 +55,7 @@ seen = record { video = false; audio = false }
 -- for which medium a track gives nothing
 abbrev pub hide_of : TrackOf → Hide
 hide_of (Playlist entries filters hide) = hide
-hide_of (Half entry) = seen
+hide_of (Half entry frames) = seen
 
 abbrev pub tracks_of : (ℕ → Tree) → List TrackOf → Tracks
 tracks_of units [] = NoTrack
@@ -181,9 +181,14 @@ level_misplaced level = first_misplaced (length (drafts_of level)) 0 level.plant
 
 -- ---- mixes
 
--- the unit of a mix: its two halves, over each other
-abbrev pub mix_unit : (a b : Entry) → Node
-mix_unit a b = record { body = Tractor (Half a ∷ Half b ∷ []) []; filters = [] }
+-- the unit of a mix over so many frames: its two halves, over each other
+abbrev pub mix_unit : (a b : Entry) → (frames : ℕ) → Node
+mix_unit a b frames = record { body = Tractor (Half a frames ∷ Half b frames ∷ []) []; filters = [] }
+
+-- over how many frames a mix is, as its first half says
+abbrev pub mix_frames : Body → ℕ
+mix_frames (Tractor (Half a frames ∷ tracks) plants) = frames
+mix_frames other = 0
 
 -- a merge of the halves, over all frames of their mix
 abbrev pub mixer : (frames : ℕ) → MergeSpec → Plant
@@ -195,20 +200,22 @@ planted_more (Source source kind frames) plant = Source source kind frames
 planted_more (Entries entries) plant = Entries entries
 planted_more (Tractor tracks plants) plant = Tractor tracks (plants ++ plant ∷ [])
 
-abbrev pub with_merge : Node → (frames : ℕ) → MergeSpec → Node
-with_merge node frames spec = record node { body = planted_more node.body (mixer frames spec) }
+-- a mix, with one merge more
+abbrev pub with_merge : Node → MergeSpec → Node
+with_merge node spec = record node { body = planted_more node.body (mixer (mix_frames node.body) spec) }
 
 -- the units, with one merge more on a numbered one, which is a mix
 abbrev pub with_mixer : List Node → ℕ → MergeSpec → List Node
-with_mixer nodes unit spec =
-    set nodes unit (with_merge (get_or nodes unit (list_unit [])) (len (tree_of nodes unit)) spec)
+with_mixer nodes unit spec = set nodes unit (with_merge (get_or nodes unit (list_unit [])) spec)
 
--- what a mix is made of: two halves
+-- what a mix is made of: two halves over each other, and over how many frames, of which there is one at least
 pub record IsMixOf (body : Body) : Type 0 where
   pub a : Entry
   pub b : Entry
+  pub frames : ℕ
   pub plants : List Plant
-  pub is : body ≡ Tractor (Half a ∷ Half b ∷ []) plants
+  pub some : 1 ≤ frames
+  pub is : body ≡ Tractor (Half a frames ∷ Half b frames ∷ []) plants
 
 -- a numbered unit is there, and is a mix
 pub record IsMix (nodes : List Node) (unit : ℕ) : Type 0 where
@@ -241,7 +248,7 @@ entries_depth depths (Gap count ∷ es) = entries_depth depths es
 -- the entries of a track
 abbrev pub entries_of : TrackOf → List Entry
 entries_of (Playlist entries filters hide) = entries
-entries_of (Half entry) = entry ∷ []
+entries_of (Half entry frames) = entry ∷ []
 
 abbrev pub tracks_depth : (ℕ → ℕ) → List TrackOf → ℕ
 tracks_depth depths [] = 0
@@ -274,7 +281,7 @@ pub record AreEntriesBelow (count : ℕ) (entries : List Entry) : Type 0 where
 -- the filters of a track
 abbrev pub filters_of : TrackOf → List Attached
 filters_of (Playlist entries filters hide) = filters
-filters_of (Half entry) = []
+filters_of (Half entry frames) = []
 
 pub record IsTrackBelow (count : ℕ) (track : TrackOf) : Type 0 where
   pub entries : AreEntriesBelow count (entries_of track)

@@ -14,8 +14,12 @@ pub enum Track {
         filters: FilterList,
         hide: Hide,
     },
-    /// One entry, which gives both media: a half of a mix.
-    Half(Entry),
+    /// One entry, which gives both media: one half of a mix over so many frames. The entry may have another
+    /// number of them.
+    Half {
+        entry: Entry,
+        frames: u32,
+    },
 }
 
 /// What a unit is made of.

@@ -1,4 +1,4 @@
-use Rattle.std.proofs.Common.{◌≡◌, ◌<◌, [], ◌∷◌, length, All, rules, arith, ap, sym, subst, length-append}
+use Rattle.std.proofs.Common.{◌<◌, [], length, All, rules, sym, subst}
 use Rattle.std.proofs.lemmas.List.Elements.{All-nil, All-cons}
 use Rattle.mlt_tree.specs.declared.draft.Draft.{Draft}
 use Rattle.mlt_tree.specs.Units.{Level, drafts_of, IsEntryBelow}

@@ -19,14 +19,14 @@ add_mix-requires-clause-below c =
     let known : All (IsKnown (length s.made.graph)) list = subst (All (IsKnown (length s.made.graph))) (sym c.last-list.ensures.list) c.requires.composed.level.current in
     (mixed_parts_are (length s.made.graph) at n unit list new (mixed_view parts) c.requires.some c.count.ensures.list known done).below
 
-pub add_mix-requires-clause-frames : goal.add_mix-requires-clause-frames
-add_mix-requires-clause-frames c =
+pub add_mix-requires-clause-halves : goal.add_mix-requires-clause-halves
+add_mix-requires-clause-halves c =
     let s = c.args.self.now in let n = c.args.n in let es : List Entry = s.level.current.entries in
     let list = c.last-list.result.now in let at = c.saturating_sub-at.result in let unit = c.next_id-unit.result.0 in
     let parts = c.in_ok-parts.parts in let new : List Entry = c.mix.new.self in
     let done = mix_done c.args.group.now.place (edit.mix at n unit list) list new c.mix.result parts (sym c.edited.ensures ∙ c.in_ok-parts.was) c.mix.ensures in
     let known : All (IsKnown (length s.made.graph)) list = subst (All (IsKnown (length s.made.graph))) (sym c.last-list.ensures.list) c.requires.composed.level.current in
-    (mixed_parts_are (length s.made.graph) at n unit list new (mixed_view parts) c.requires.some c.count.ensures.list known done).frames_are
+    (mixed_parts_are (length s.made.graph) at n unit list new (mixed_view parts) c.requires.some c.count.ensures.list known done).halves
 
 pub add_mix-requires-clause-some : goal.add_mix-requires-clause-some
 add_mix-requires-clause-some c =
