@@ -18,9 +18,9 @@ use mlt_base::{Profile, SourceNo};
 use mlt_pool::Lease;
 use mlt_slice::Bands;
 use mlt_source::SourceTable;
-use mlt_trans::{KeptColumns, merge_again};
+use mlt_trans::{KeptColumns, merge_again, merge_from};
 use mlt_tree::{FilterStep, MergeStep};
-use mlt_vfilter::{apply, leaves};
+use mlt_vfilter::{apply, apply_from, leaves};
 
 /// Writes the picture of a source to the first bytes.
 fn load_bytes(table: &SourceTable, profile: &Profile, bytes: &mut [u8], no: SourceNo)
@@ -115,15 +115,23 @@ fn filter_own<B: Bands>(profile: &Profile, bands: &B, bytes: &mut [u8], step: &F
     filter_picture(profile, bands, &mut bytes[..count], step);
 }
 
-/// Copies a picture to the first bytes.
-fn copy_to(bytes: &mut [u8], picture: &[u8])
-    requires { length picture.now ≤ length bytes.old }
-    ensures { take (length picture.now) bytes.new ≡ picture.now }
+/// Filters a picture of a frame's size, and writes what it becomes to another one.
+fn filter_picture_from<B: Bands>(
+    profile: &Profile,
+    bands: &B,
+    from: &[u8],
+    picture: &mut [u8],
+    step: &FilterStep,
+)
+    requires range { IsFilterStep step.now }
+    requires from { length from.now ≡ pixels_of (measures_of profile.now) * 4 }
+    requires sized { length picture.old ≡ pixels_of (measures_of profile.now) * 4 }
+    ensures { picture.new ≡ picture_filter step.now profile.now.width from.now }
 {
-    bytes[..picture.len()].copy_from_slice(picture);
+    apply_from(step, from, picture, profile.width, bands);
 }
 
-/// Filters a picture into the first bytes: a copy and the filter.
+/// Filters a picture into the first bytes.
 fn filter_lent<B: Bands>(
     profile: &Profile,
     bands: &B,
@@ -136,8 +144,8 @@ fn filter_lent<B: Bands>(
     requires room { pixels_of (measures_of profile.now) * 4 ≤ length bytes.old }
     ensures { take (pixels_of (measures_of profile.now) * 4) bytes.new ≡ picture_filter step.now profile.now.width picture.now }
 {
-    copy_to(bytes, picture);
-    filter_own(profile, bands, bytes, step);
+    let count = fitted_bytes(profile);
+    filter_picture_from(profile, bands, picture, &mut bytes[..count], step);
 }
 
 /// Filters what a register has into its block, in place where it is there, and answers where it stands then.
@@ -189,25 +197,6 @@ fn clear_own(profile: &Profile, bytes: &mut [u8])
     clear_picture(profile, &mut bytes[..count]);
 }
 
-/// Brings what a register has into its block: transparent black where it has nothing.
-fn own_block(scene: &Scene<'_>, block: &mut Lease, state: Register)
-    requires fitted { AreFitted (measures_of scene.now.profile.now) scene.now.table.now scene.now.fitted.now.fits }
-    requires there { IsThere (length scene.now.fitted.now.fits) state }
-    requires room { pixels_of (measures_of scene.now.profile.now) * 4 ≤ length block.old }
-    ensures picture { take (pixels_of (measures_of scene.now.profile.now) * 4) block.new
-        ≡ unwrap_or (held (pixels_of (measures_of scene.now.profile.now) * 4) scene.now.fitted.now.fits block.old state) (clear (pixels_of (measures_of scene.now.profile.now))) }
-    ensures long { length block.new ≡ length block.old }
-{
-    match state {
-        Register::Nothing => clear_own(scene.profile, block.bytes_mut()),
-        Register::Lent(place) => {
-            let picture = scene.fitted.pixels(place);
-            copy_to(block.bytes_mut(), picture);
-        }
-        Register::Owned => {}
-    }
-}
-
 /// Merges a picture into one of a frame's size, by the picture of its map, where the merge takes one.
 fn merge_picture<B: Bands>(
     profile: &Profile,
@@ -248,6 +237,51 @@ fn merge_own<B: Bands>(
     merge_picture(profile, bands, kept, &mut bytes[..count], above, map, step);
 }
 
+/// Merges a picture into another one of a frame's size, and writes what that becomes to a third.
+fn merge_picture_from<B: Bands>(
+    profile: &Profile,
+    bands: &B,
+    kept: &mut KeptColumns,
+    from: &[u8],
+    picture: &mut [u8],
+    above: &[u8],
+    map: Option<&[u8]>,
+    step: &MergeStep,
+)
+    requires range { IsMergeStep step.now }
+    requires from { length from.now ≡ pixels_of (measures_of profile.now) * 4 }
+    requires sized { length picture.old ≡ pixels_of (measures_of profile.now) * 4 }
+    requires above { length above.now ≡ pixels_of (measures_of profile.now) * 4 }
+    requires map { IsMap (map_of step.now) (pixels_of (measures_of profile.now) * 4) (option_copied map) }
+    ensures { picture.new ≡ picture_merge step.now (option_copied map.entry) profile.now.width from.now above.now }
+{
+    merge_from(step, from, picture, above, map, profile.width, kept, bands);
+}
+
+/// Merges a picture into another one, and writes what that becomes to the first bytes.
+fn merge_lent<B: Bands>(
+    profile: &Profile,
+    bands: &B,
+    kept: &mut KeptColumns,
+    bytes: &mut [u8],
+    picture: &[u8],
+    above: &[u8],
+    map: Option<&[u8]>,
+    step: &MergeStep,
+)
+    requires range { IsMergeStep step.now }
+    requires sized { length picture.now ≡ pixels_of (measures_of profile.now) * 4 }
+    requires room { pixels_of (measures_of profile.now) * 4 ≤ length bytes.old }
+    requires above { length above.now ≡ pixels_of (measures_of profile.now) * 4 }
+    requires map { IsMap (map_of step.now) (pixels_of (measures_of profile.now) * 4) (option_copied map) }
+    ensures { take (pixels_of (measures_of profile.now) * 4) bytes.new
+        ≡ picture_merge step.now (option_copied map.entry) profile.now.width picture.now above.now }
+{
+    let count = fitted_bytes(profile);
+    let own = &mut bytes[..count];
+    merge_picture_from(profile, bands, kept, picture, own, above, map, step);
+}
+
 /// Merges a picture into what a register has, in the register's block.
 pub(crate) fn merge_block<B: Bands>(
     scene: &Scene<'_>,
@@ -269,6 +303,17 @@ pub(crate) fn merge_block<B: Bands>(
         ≡ picture_merge step.now (option_copied map.entry) scene.now.profile.now.width (unwrap_or (held (pixels_of (measures_of scene.now.profile.now) * 4) scene.now.fitted.now.fits block.old state) (clear (pixels_of (measures_of scene.now.profile.now)))) above.now }
     ensures long { length block.new ≡ length block.old }
 {
-    own_block(scene, block, state);
-    merge_own(scene.profile, bands, kept, block.bytes_mut(), above, map, step);
+    let profile = scene.profile;
+    let bytes = block.bytes_mut();
+    match state {
+        Register::Nothing => {
+            clear_own(profile, bytes);
+            merge_own(profile, bands, kept, bytes, above, map, step);
+        }
+        Register::Lent(place) => {
+            let picture = scene.fitted.pixels(place);
+            merge_lent(profile, bands, kept, bytes, picture, above, map, step);
+        }
+        Register::Owned => merge_own(profile, bands, kept, bytes, above, map, step),
+    }
 }

@@ -178,7 +178,9 @@ fn merge_mapped<B: Bands>(
     let (below, above) = blocks.split_at_mut(count);
     let spare = &mut above[0];
     let place = fit_map(scene, spare, step);
-    merge_pair(scene, bands, kept, below, states, _size, a, b, spare, place, step);
+    merge_pair(
+        scene, bands, kept, below, states, _size, a, b, spare, place, step,
+    );
 }
 
 /// Puts what register `b` has, where it has something, into register `a` by a merge; `b` has nothing then. There are

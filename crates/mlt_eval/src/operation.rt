@@ -142,7 +142,9 @@ fn apply<B: Bands>(
         Op::Merge { a, b, step } => {
             let into = count - 1 - *a as usize;
             let from = count - 1 - *b as usize;
-            merge(scene, bands, kept, blocks, states, _size, count, into, from, step);
+            merge(
+                scene, bands, kept, blocks, states, _size, count, into, from, step,
+            );
             count
         }
         Op::Keep { row, count: over } => {

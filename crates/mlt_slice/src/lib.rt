@@ -5,9 +5,11 @@
 //! reading at [`RowWork`], then [`Bands`].
 #![tactic(auto)]
 
+pub mod from;
 pub mod laws;
 pub mod rows;
 
+pub use from::run_from;
 pub use rows::{Alone, Bands, RowWork};
 
 #[cfg(test)]

@@ -16,7 +16,7 @@ pub mod step;
 pub mod wipe;
 
 pub use columns::KeptColumns;
-pub use step::{merge_again, merge_pictures};
+pub use step::{merge_again, merge_from, merge_pictures};
 
 #[cfg(test)]
 mod tests;

@@ -7,7 +7,7 @@ ghost use Rattle.mlt_trans.specs.Beside.{row_in, beside};
 use crate::rows::{EachRow, RowMerge, row_at};
 use mlt_base::Q16;
 use mlt_kernel::dissolve::dissolve;
-use mlt_slice::Bands;
+use mlt_slice::{Bands, run_from};
 
 /// The picture that is dissolved into, and how far, as a merge by rows.
 #[derive(Clone, Copy)]
@@ -42,4 +42,17 @@ pub fn luma<B: Bands>(a: &mut [u8], b: &[u8], q: Q16, width: u32, bands: &B)
 {
     let merge = LumaMerge { b, q, width };
     bands.run(&EachRow { merge, width }, a, width as usize * 4);
+}
+
+/// The same of the picture `from`, written to `a`, which is as long.
+pub fn luma_from<B: Bands>(from: &[u8], a: &mut [u8], b: &[u8], q: Q16, width: u32, bands: &B)
+    requires share { q.0 ≤ 65536 }
+    requires width { (1 ≤ width) × (width ≤ 4096) }
+    requires rows { (length from.now % (width * 4) ≡ 0) × (length from.now / (width * 4) ≤ 4096) }
+    requires same { (length b.now ≡ length from.now) × (length a.old ≡ length from.now) }
+    ensures { a.new ≡ table (length from.now) (dissolved q.0 from.now b.now) }
+{
+    let merge = LumaMerge { b, q, width };
+    let rows = EachRow { merge, width };
+    run_from(bands, &rows, from, a, width as usize * 4);
 }

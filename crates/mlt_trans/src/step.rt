@@ -9,9 +9,9 @@ ghost use Rattle.mlt_trans.specs.Maps.{IsMap};
 
 use crate::columns::{Columns, KeptColumns};
 use crate::composite::composite;
-use crate::luma::luma;
+use crate::luma::{luma, luma_from};
 use crate::matte::matte;
-use crate::wipe::wipe;
+use crate::wipe::{wipe, wipe_from};
 use mlt_slice::Bands;
 use mlt_tree::MergeStep;
 
@@ -74,5 +74,36 @@ pub fn merge_again<B: Bands>(
         composite(a, b, geometry, width, kept.at(place), bands);
     } else {
         merge_pictures(step, a, b, map, width, bands);
+    }
+}
+
+/// The same as [`merge_again`] of the picture `from`, written to `a`, which is as long: as if it were copied there
+/// first. A luma reads each row once.
+pub fn merge_from<B: Bands>(
+    step: &MergeStep,
+    from: &[u8],
+    a: &mut [u8],
+    b: &[u8],
+    map: Option<&[u8]>,
+    width: u32,
+    kept: &mut KeptColumns,
+    bands: &B,
+)
+    requires range { IsMergeStep step.now }
+    requires width { (1 ≤ width) × (width ≤ 4096) }
+    requires rows { (length from.now % (width * 4) ≡ 0) × (length from.now / (width * 4) ≤ 4096) }
+    requires same { (length b.now ≡ length from.now) × (length a.old ≡ length from.now) }
+    requires map { IsMap (map_of step.now) (length from.now) (option_copied map) }
+    ensures picture { a.new ≡ picture_merge step.now (option_copied map.entry) width from.now b.now }
+    ensures kept { kept.new ≡ kept_after step.now width kept.old }
+{
+    if let MergeStep::Luma { softness, q, .. } = step {
+        match map {
+            None => luma_from(from, a, b, *q, width, bands),
+            Some(map) => wipe_from(from, a, b, map, *softness, *q, width, bands),
+        }
+    } else {
+        a.copy_from_slice(from);
+        merge_again(step, a, b, map, width, kept, bands);
     }
 }

@@ -1,7 +1,9 @@
 //! Small pictures through each merge, as the definitions compute them.
 
 ghost use Rattle.std.specs.Prelude.{◌≡◌, ◌≤◌, None};
+ghost use Rattle.std.specs.Option.{option_copied};
 ghost use Rattle.mlt_base.specs.GeometryView.{IsPlacement};
+ghost use Rattle.mlt_trans.specs.Maps.{IsMap};
 ghost use Rattle.mlt_tree.specs.Merges.{map_of};
 ghost use Rattle.mlt_tree.specs.Ranges.{IsMergeStep};
 ghost use Rattle.mlt_tree.specs.declared.merge.MergeStep.TheVariants.{Composite};
@@ -149,6 +151,41 @@ fn columns_are_kept(rt: HostRuntime) -> Result<(), AllocError> {
     }
     let whole = geometry_of(0, 0, 2, 2, 100);
     assert_eq!(rt; four_again(whole, &mut kept), greys([50, 60, 70, 80]));
+    Ok(())
+}
+
+/// A red pixel that turns blue by a map, written to another one.
+fn turned(map: Option<SourceNo>, light: Option<&[u8]>, kept: &mut KeptColumns) -> [u8; 4]
+    requires { IsMap map 4 (option_copied light) }
+{
+    let step = MergeStep::Luma {
+        map,
+        softness: Q16(65536),
+        q: Q16(32768),
+    };
+    let mut picture = [9; 4];
+    merge_from(&step, &RED, &mut picture, &BLUE, light, 1, kept, &Alone);
+    picture
+}
+
+#[test]
+fn merges_into_others(rt: HostRuntime) -> Result<(), AllocError> {
+    let mut kept = KeptColumns::new(rt.alloc())?;
+    assert_eq!(rt; turned(None, None, &mut kept), [128, 0, 128, 255]);
+    let light = [0, 0, 0, 255];
+    assert_eq!(rt; turned(Some(SourceNo(0)), Some(&light), &mut kept), BLUE);
+    let mut picture = [9; 4];
+    merge_from(
+        &MergeStep::Matte,
+        &RED,
+        &mut picture,
+        &BLUE,
+        None,
+        1,
+        &mut kept,
+        &Alone,
+    );
+    assert_eq!(rt; picture, [255, 0, 0, 28]);
     Ok(())
 }
 

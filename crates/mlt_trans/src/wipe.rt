@@ -14,7 +14,7 @@ use crate::rows::{EachRow, RowMerge, row_at};
 use mlt_base::Q16;
 use mlt_kernel::Pixel;
 use mlt_kernel::pixel::{pixel_at, put_pixel};
-use mlt_slice::Bands;
+use mlt_slice::{Bands, run_from};
 
 /// How many pixels a block has.
 const BLOCK: usize = 256;
@@ -227,4 +227,35 @@ pub fn wipe<B: Bands>(
         width,
     };
     bands.run(&EachRow { merge, width }, a, width as usize * 4);
+}
+
+/// The same of the picture `from`, written to `a`, which is as long.
+pub fn wipe_from<B: Bands>(
+    from: &[u8],
+    a: &mut [u8],
+    b: &[u8],
+    map: &[u8],
+    softness: Q16,
+    q: Q16,
+    width: u32,
+    bands: &B,
+)
+    requires softness { softness.0 ≤ 65536 }
+    requires share { q.0 ≤ 65536 }
+    requires width { (1 ≤ width) × (width ≤ 4096) }
+    requires rows { (length from.now % (width * 4) ≡ 0) × (length from.now / (width * 4) ≤ 4096) }
+    requires same { (length b.now ≡ length from.now) × (length a.old ≡ length from.now) }
+    requires mapped { length map.now ≡ length from.now }
+    ensures { a.new ≡ table (length from.now) (λ k. mixed (share_at softness.0 q.0 map.now k) (slice_index from.now k) (slice_index b.now k)) }
+{
+    let mut shares = [0; 256];
+    find_shares(softness.0, q.0, &mut shares);
+    let merge = WipeMerge {
+        b,
+        map,
+        shares: &shares,
+        width,
+    };
+    let rows = EachRow { merge, width };
+    run_from(bands, &rows, from, a, width as usize * 4);
 }

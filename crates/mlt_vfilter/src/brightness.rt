@@ -6,7 +6,7 @@ ghost use Rattle.mlt_slice.specs.Rows.{by_bytes};
 
 use mlt_base::Q16;
 use mlt_kernel::scale::scale;
-use mlt_slice::{Bands, RowWork};
+use mlt_slice::{Bands, RowWork, run_from};
 
 /// The filter of rows.
 #[derive(Drop)]
@@ -38,4 +38,16 @@ pub fn brightness<B: Bands>(picture: &mut [u8], width: u32, level: Q16, bands: &
         picture,
         width as usize * 4,
     );
+}
+
+/// The same of the picture `from`, written to `picture`, which is as long.
+pub fn brightness_from<B: Bands>(from: &[u8], picture: &mut [u8], width: u32, level: Q16, bands: &B)
+    requires width { (1 ≤ width) × (width ≤ 4096) }
+    requires rows { length from.now % (width * 4) ≡ 0 }
+    requires few { length from.now / (width * 4) ≤ 4096 }
+    requires same { length picture.old ≡ length from.now }
+    ensures { picture.new ≡ table (length from.now) (scaled level.0 from.now) }
+{
+    let filter = BrightnessFilter { level, width };
+    run_from(bands, &filter, from, picture, width as usize * 4);
 }

@@ -20,7 +20,7 @@ pub mod step;
 pub mod swapchannels;
 pub mod threshold;
 
-pub use step::{apply, leaves};
+pub use step::{apply, apply_from, leaves};
 
 #[cfg(test)]
 mod tests;

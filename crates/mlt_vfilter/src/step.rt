@@ -5,7 +5,7 @@ ghost use Rattle.mlt_tree.specs.Filters.{picture_filter};
 ghost use Rattle.mlt_tree.specs.Ranges.{IsFilterStep};
 ghost use Rattle.mlt_vfilter.specs.Neutral.{is_neutral};
 
-use crate::brightness::brightness;
+use crate::brightness::{brightness, brightness_from};
 use crate::crop::{Sides, crop};
 use crate::greyscale::greyscale;
 use crate::invert::invert;
@@ -58,6 +58,29 @@ pub fn apply<B: Bands>(step: &FilterStep, picture: &mut [u8], width: u32, bands:
         FilterStep::ChannelCopy { .. } => {}
         FilterStep::ChannelSwap => {}
         FilterStep::Silence => {}
+    }
+}
+
+/// Filters the picture `from`, and writes what it becomes to `picture`, which is as long: the same as a copy and
+/// [`apply`]. Brightness reads each row once.
+pub fn apply_from<B: Bands>(
+    step: &FilterStep,
+    from: &[u8],
+    picture: &mut [u8],
+    width: u32,
+    bands: &B,
+)
+    requires range { IsFilterStep step.now }
+    requires width { (1 ≤ width) × (width ≤ 4096) }
+    requires rows { (length from.now % (width * 4) ≡ 0) × (length from.now / (width * 4) ≤ 4096) }
+    requires same { length picture.old ≡ length from.now }
+    ensures { picture.new ≡ picture_filter step.now width from.now }
+{
+    if let FilterStep::Brightness { level } = step {
+        brightness_from(from, picture, width, *level, bands);
+    } else {
+        picture.copy_from_slice(from);
+        apply(step, picture, width, bands);
     }
 }
 

@@ -9,12 +9,12 @@ use mlt_base::Q16;
 use mlt_slice::Alone;
 use mlt_tree::FilterStep;
 
-/// What a filter makes of one pixel.
+/// What a filter makes of one pixel, written to another one.
 fn one(step: FilterStep, pixel: [u8; 4]) -> [u8; 4]
     requires { IsFilterStep step }
 {
-    let mut picture = pixel;
-    apply(&step, &mut picture, 1, &Alone);
+    let mut picture = [0; 4];
+    apply_from(&step, &pixel, &mut picture, 1, &Alone);
     picture
 }
 
