@@ -1,1 +1,2 @@
+pub mod Alphas
 pub mod Words

@@ -3,7 +3,8 @@
 //! A loop that reads a pixel by [`pixel_at`] and writes it by [`put_pixel`] has one load and one store
 //! for it, so that the compiler makes it go over several pixels at a time.
 
-ghost use Rattle.std.specs.Prelude.{◌≡◌, ℕ, ◌+◌, ◌*◌, ◌/◌, ◌%◌, ◌<◌, ◌≤◌, length, slice_index};
+ghost use Rattle.std.specs.Prelude.{◌≡◌, ◌⊎◌, ℕ, ◌+◌, ◌*◌, ◌/◌, ◌%◌, ◌<◌, ◌≤◌, length, slice_index};
+ghost use Rattle.mlt_kernel.specs.Alphas.{HasAlpha};
 ghost use Rattle.mlt_kernel.specs.Words.{word_of, four};
 
 use std::simd::{u8x4, u32x1};
@@ -66,10 +67,14 @@ pub fn put_pixel(xs: &mut [u8], at: usize, pixel: Pixel)
     put_word(xs, at, colours + pixel.a as u32 * 16777216);
 }
 
-/// The least and the greatest alpha of the pixels `from` to before `to`.
+/// The least and the greatest alpha of the pixels `from` to before `to`; of none, 255 and 0.
 pub fn alphas(xs: &[u8], from: usize, to: usize) -> (u8, u8)
     requires order { from ≤ to }
     requires room { to * 4 ≤ length xs.now }
+    ensures least { (p : ℕ) → from ≤ p → p < to → result.0 ≤ slice_index xs.now (p * 4 + 3) }
+    ensures greatest { (p : ℕ) → from ≤ p → p < to → slice_index xs.now (p * 4 + 3) ≤ result.1 }
+    ensures least_there { (result.0 ≡ 255) ⊎ HasAlpha xs.now from to result.0 }
+    ensures greatest_there { (result.1 ≡ 0) ⊎ HasAlpha xs.now from to result.1 }
     ensures opaque { result.0 ≡ 255 → (p : ℕ) → from ≤ p → p < to → slice_index xs.now (p * 4 + 3) ≡ 255 }
     ensures clear { result.1 ≡ 0 → (p : ℕ) → from ≤ p → p < to → slice_index xs.now (p * 4 + 3) ≡ 0 }
 {
