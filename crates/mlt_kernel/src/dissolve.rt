@@ -1,8 +1,9 @@
 //! One picture dissolved into another.
 
-ghost use Rattle.std.specs.Prelude.{◌≡◌, ◌+◌, ◌*◌, ◌/◌, ◌≤◌, length};
+ghost use Rattle.std.specs.Prelude.{◌≡◌, ◌+◌, ◌≤◌, length};
 ghost use Rattle.mlt_base.specs.Mixing.{table, mixed, dissolved};
 
+use crate::share::share_of;
 use mlt_base::Q16;
 
 /// Dissolves `dst` into `src`, byte by byte and alpha too: at `q` 0 it stays, at 65536 it is `src`.
@@ -39,14 +40,4 @@ fn mixed(q: u16, p: u16, x: u8, z: u8) -> u8
     let gap = x.max(z) - low;
     let share = if z >= x { q } else { p };
     low + share_of(gap, share)
-}
-
-/// A share of a gap, to the nearest whole number. The product is taken in two halves of 16 bits.
-fn share_of(gap: u8, share: u16) -> u8
-    ensures whole { result ≡ (gap * share + 32768) / 65536 }
-    ensures below { result ≤ gap }
-{
-    let high = (gap as u32 * share as u32 / 65536) as u16;
-    let rest = (gap as u16).wrapping_mul(share);
-    (high + rest / 32768) as u8
 }

@@ -10,6 +10,7 @@ pub mod dissolve;
 pub mod over;
 pub mod pixel;
 pub mod scale;
+mod share;
 
 pub use pixel::Pixel;
 

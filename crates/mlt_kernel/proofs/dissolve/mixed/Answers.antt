@@ -8,8 +8,8 @@ returns c =
     let gap : ℕ = c.max.result - c.min-low.result in elim c.if-z-x.branch [
       | then-z-x w ↦
           raised_up c.args.x c.args.z c.args.q c.min-low.result gap c.share_of.result (omega arith) (omega arith) (omega arith)
-          (c.share_of.ensures.whole ∙ ap (λ s. (gap * s + 32768) / 65536) w.share-is)
+          (c.share_of.ensures.value ∙ ap (λ s. (gap * s + 32768) / 65536) w.share-is)
       | else-z-x w ↦
           raised_down c.args.x c.args.z c.args.q c.args.p c.min-low.result gap c.share_of.result c.requires (omega arith) (omega arith)
-          (c.share_of.ensures.whole ∙ ap (λ s. (gap * s + 32768) / 65536) w.share-is)
+          (c.share_of.ensures.value ∙ ap (λ s. (gap * s + 32768) / 65536) w.share-is)
     ]

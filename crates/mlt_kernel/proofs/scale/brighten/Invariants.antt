@@ -1,6 +1,6 @@
 use Rattle.std.proofs.Common.{◌≡◌, ℕ, ◌*◌, ◌<◌, ◌≤◌, get_or}
 use Rattle.mlt_base.specs.Mixing.{scaled}
-use Rattle.mlt_kernel.proofs.scale.scale_each.Given as goal
+use Rattle.mlt_kernel.proofs.scale.brighten.Given as goal
 
 -- the pixels before this one are scaled, the others as they were
 abbrev pub invariant-loop-p : goal.invariant-loop-p
