@@ -1,6 +1,7 @@
 -- Filters that are attached: the clip that stands last, and the units with one filter more.
-use Rattle.std.proofs.Common.{ℕ, ◌≡◌, ◌+◌, ◌<◌, List, [], ◌∷◌, length, get_or, slice_get, Option, None, Some, Result, refl, ap, ◌∙◌, arith}
+use Rattle.std.proofs.Common.{ℕ, ◌≡◌, ◌+◌, ◌-◌, ◌<◌, List, [], length, get_or, slice_get, Option, None, Some, Result, sym, ap, ◌∙◌, arith}
 use Rattle.std.proofs.lemmas.List.{length-set}
+use Rattle.std.proofs.lemmas.Option.{slice_get_within}
 use Rattle.mlt_base.specs.declared.value.Span.{Span}
 use Rattle.mlt_base.specs.declared.value.UnitId.{UnitId}
 use Rattle.mlt_tree.specs.declared.entry.Entry.{Entry}
@@ -19,38 +20,31 @@ use Rattle.mlt_tree.specs.Sources.{FitsBody}
 use Rattle.mlt_tree.specs.Units.{list_unit, with_filter, with_unit_filter}
 use Rattle.melt_build.specs.State.{FitsUnits}
 use Rattle.melt_build.proofs.Mixed.{each_set, unit_there}
-use Rattle.melt_build.proofs.Tracks.{on_last_is}
 
 -- ---- the clip that stands last
 
 module _ (s : meaning.State) (g : Group) (act : UnitId → Span → Result meaning.State Refusal) where
-  abbrev found : ℕ → Option Entry → Result meaning.State Refusal
-  found last None = refuse g.place (cause.BadClip last (length (track s)))
-  found last (Some (Gap frames)) = refuse g.place (cause.BadClip last (length (track s)))
-  found last (Some (Clip unit span filters)) = act unit span
+  abbrev found : Option Entry → Result meaning.State Refusal
+  found None = refuse g.place (cause.TooFew 1 0)
+  found (Some (Gap frames)) = refuse g.place (cause.BadClip (length (track s) - 1) (length (track s)))
+  found (Some (Clip unit span filters)) = act unit span
 
-  on_clip_is : (last : ℕ) → length (track s) ≡ last + 1 → (o : Option Entry) → slice_get (track s) last ≡ o → on_clip s g act ≡ found last o
-  on_clip_is last h o is =
-      on_last_is s g (λ last. found last (slice_get (track s) last)) last h ∙ ap (found last) is
+  found_at : (last : ℕ) (o : Option Entry) → last ≡ length (track s) - 1 → slice_get (track s) last ≡ o → on_clip s g act ≡ found o
+  found_at last o at is = ap (λ k. found (slice_get (track s) k)) (sym at) ∙ ap found is
 
-  pub clip_found : (last : ℕ) (unit : UnitId) (span : Span) (filters : List Attached) → length (track s) ≡ last + 1 → slice_get (track s) last ≡ Some (Clip unit span filters) → on_clip s g act ≡ act unit span
-  clip_found last unit span filters h is = on_clip_is last h (Some (Clip unit span filters)) is
+  pub clip_found : (last : ℕ) (unit : UnitId) (span : Span) (filters : List Attached) → last ≡ length (track s) - 1 → slice_get (track s) last ≡ Some (Clip unit span filters) → on_clip s g act ≡ act unit span
+  clip_found last unit span filters at is = found_at last (Some (Clip unit span filters)) at is
 
-  pub gap_found : (last frames : ℕ) → length (track s) ≡ last + 1 → slice_get (track s) last ≡ Some (Gap frames) → on_clip s g act ≡ refuse g.place (cause.BadClip last (length (track s)))
-  gap_found last frames h is = on_clip_is last h (Some (Gap frames)) is
+  pub gap_found : (last frames : ℕ) → last ≡ length (track s) - 1 → slice_get (track s) last ≡ Some (Gap frames) → on_clip s g act ≡ refuse g.place (cause.BadClip last (length (track s)))
+  gap_found last frames at is =
+      found_at last (Some (Gap frames)) at is ∙ ap (λ k. refuse g.place (cause.BadClip k (length (track s)))) (sym at)
 
-  pub none_found : (last : ℕ) → length (track s) ≡ last + 1 → slice_get (track s) last ≡ None → on_clip s g act ≡ refuse g.place (cause.BadClip last (length (track s)))
-  none_found last h is = on_clip_is last h None is
+  pub nothing_found : (last : ℕ) → last ≡ length (track s) - 1 → slice_get (track s) last ≡ None → on_clip s g act ≡ refuse g.place (cause.TooFew 1 0)
+  nothing_found last at is = found_at last None at is
 
-  pub nothing_found : track s ≡ [] → on_clip s g act ≡ refuse g.place (cause.TooFew 1 0)
-  nothing_found h = by (track s) h where
-    run : List Entry → Result meaning.State Refusal
-    run [] = refuse g.place (cause.TooFew 1 0)
-    run (e ∷ es) = found (length es) (slice_get (track s) (length es))
-
-    by : (es : List Entry) → es ≡ [] → run es ≡ refuse g.place (cause.TooFew 1 0)
-    by [] h = refl
-    by (e ∷ es) h = let apart : ⊥ = grind arith in absurd apart
+-- where there is an entry at the last index, that is below the length
+pub last_within : (es : List Entry) (last : ℕ) (e : Entry) → last ≡ length es - 1 → slice_get es last ≡ Some e → length es ≡ last + 1
+last_within es last e at is = omega (arith, at, slice_get_within es last e is)
 
 -- ---- units with one filter more
 

@@ -21,7 +21,7 @@ use Rattle.mlt_tree.specs.Show.{Source, Drawn}
 use Rattle.melt_build.specs.declared.fault.BuildFault.{BuildFault}
 use Rattle.melt_build.specs.declared.fault.BuildFault.TheVariants.{Refused, SourceFault}
 use Rattle.melt_build.specs.Failing.{fault_of}
-use Rattle.melt_build.specs.Loads.{names_of, Asks, Tells, Fails, Goes}
+use Rattle.melt_build.specs.Loads.{names_of, Asks, TellsFiles, StepFails, Goes}
 use Rattle.melt_build.proofs.Going.{asks_none, fails_first, plain_fails}
 use Rattle.melt_build.proofs.Steps.{read_tells, read_fails, read_then}
 
@@ -60,7 +60,7 @@ module _ (files : Files) (place : ℕ) (name : List ℕ) (limit : ℕ) where
   one_load = ap (λ (r : Read (List ℕ)). r.loads) step_is ∙ looked_up (files name)
 
   -- a host that tells its files tells this one
-  pub told : (host : HostState) → Tells files (file_within files place name limit) host → host.files ≡ Some files
+  pub told : (host : HostState) → TellsFiles files (file_within files place name limit) host → host.files ≡ Some files
   told host (inl h) = h
   told host (inr h) = absurd (not_nothing (sym one_load ∙ h)) where
     not_nothing : one ≡ [] → ⊥
@@ -86,17 +86,17 @@ module _ (files : Files) (place : ℕ) (name : List ℕ) (limit : ℕ) where
     all_asked : Asks (names_of (file_within files place name limit).loads) a b
     all_asked = subst (λ loads. Asks (names_of loads) a b) (sym one_load) (asks_one name a b asked)
 
-    pub goes_loaded : (bytes : List ℕ) → IfSome a.files (λ file. file name ≡ Some bytes) → length bytes ≤ limit → Tells files (file_within files place name limit) a → ((file_within files place name limit).end ≡ Ok bytes) × Asks (names_of (file_within files place name limit).loads) a b
+    pub goes_loaded : (bytes : List ℕ) → IfSome a.files (λ file. file name ≡ Some bytes) → length bytes ≤ limit → TellsFiles files (file_within files place name limit) a → ((file_within files place name limit).end ≡ Ok bytes) × Asks (names_of (file_within files place name limit).loads) a b
     goes_loaded bytes is fits tells =
         (loaded bytes (subst (λ (fs : Option Files). IfSome fs (λ file. file name ≡ Some bytes)) (told a tells) is) fits, all_asked)
 
-    pub fails_long : IfSome a.files (λ file. IsSomeAnd (file name) (λ bytes. limit < length bytes)) → Tells files (file_within files place name limit) a → Fails (Refused (refusal_at place (cause.FileTooLarge limit))) (file_within files place name limit) a b
+    pub fails_long : IfSome a.files (λ file. IsSomeAnd (file name) (λ bytes. limit < length bytes)) → TellsFiles files (file_within files place name limit) a → StepFails (Refused (refusal_at place (cause.FileTooLarge limit))) (file_within files place name limit) a b
     fails_long is tells = (by (files name) refl (subst (λ (fs : Option Files). IfSome fs (λ file. IsSomeAnd (file name) (λ bytes. limit < length bytes))) (told a tells) is), all_asked) where
       by : (file : Option (List ℕ)) → files name ≡ file → IsSomeAnd file (λ bytes. limit < length bytes) → (file_within files place name limit).end ≡ Err (read.Refused (refusal_at place (cause.FileTooLarge limit)))
       by None here long = absurd long
       by (Some bytes) here long = too_long bytes here long
 
-    pub fails_reading : Fails (SourceFault place) (file_within files place name limit) a b
+    pub fails_reading : StepFails (SourceFault place) (file_within files place name limit) a b
     fails_reading = record { before = []; name = name; rest = []; order = one_load; asked = asks_one name a b asked }
 
 -- ---- the picture of a file
@@ -115,14 +115,14 @@ module _ (files : Files) (made : Made) (place : ℕ) (name : List ℕ) (limit : 
   unfolding picture_loaded
   whole_is = ap (λ n. file_within files place name n >>= picture_step) (sym is)
 
-  pub tells_bytes : (host : HostState) → Tells files whole host → Tells files bytes_step host
+  pub tells_bytes : (host : HostState) → TellsFiles files whole host → TellsFiles files bytes_step host
   tells_bytes host tells = read_tells whole bytes_step picture_step whole_is files host tells
 
-  pub bytes_fail : (fault : BuildFault) (a b : HostState) → Fails fault bytes_step a b → Fails fault whole a b
+  pub bytes_fail : (fault : BuildFault) (a b : HostState) → StepFails fault bytes_step a b → StepFails fault whole a b
   bytes_fail fault a b fails = read_fails whole bytes_step picture_step whole_is fault a b fails
 
   module _ (bytes : List ℕ) (a b : HostState) (did : (bytes_step.end ≡ Ok bytes) × Asks (names_of bytes_step.loads) a b) where
-    pub picture_fails : (refused : Try Refusal) → tried.Fails refused (picture_in place (ppm bytes)) → Fails (fault_of refused) whole a b
+    pub picture_fails : (refused : Try Refusal) → tried.TryFails refused (picture_in place (ppm bytes)) → StepFails (fault_of refused) whole a b
     picture_fails refused fails =
         read_then whole bytes_step picture_step whole_is bytes a b did {Z = Made × Picture} (λ x. x) (Err (fault_of refused)) (fails_first (fault_of refused) (plainly (picture_in place (ppm bytes))) (λ picture. done (with_loaded made (length bytes), picture)) b b (plain_fails refused (picture_in place (ppm bytes)) b b refl fails))
 

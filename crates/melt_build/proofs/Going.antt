@@ -13,7 +13,7 @@ use Rattle.melt_build.specs.declared.fault.BuildFault.{BuildFault}
 use Rattle.melt_build.specs.declared.fault.BuildFault.TheVariants.{Refused, SourceFault, Memory}
 use Rattle.melt_build.specs.Failing.{fault_of, lifted}
 use Rattle.melt_build.specs.Reads.{ReadGives}
-use Rattle.melt_build.specs.Loads.{names_of, Asks, StopsAt, AsksSome, Tells, Fails, Goes}
+use Rattle.melt_build.specs.Loads.{names_of, Asks, AsksUpTo, AsksSome, TellsFiles, StepFails, Goes}
 
 -- ---- names
 
@@ -52,7 +52,7 @@ take_front (x ∷ xs) ys (suc count) = ap (λ rest. x ∷ rest) (take_front xs y
 -- ---- two steps
 
 -- what the first step looks up is told where all is
-pub tells_first : {X Y : Type 0} (files : Files) (first : Read X) (second : X → Read Y) (host : HostState) → Tells files (first >>= second) host → Tells files first host
+pub tells_first : {X Y : Type 0} (files : Files) (first : Read X) (second : X → Read Y) (host : HostState) → TellsFiles files (first >>= second) host → TellsFiles files first host
 tells_first {X} {Y} files first second host (inl told) = inl told
 tells_first {X} {Y} files first second host (inr none) = inr (by first.end none) where
   both : Result X read.Stop → Read Y
@@ -68,7 +68,7 @@ tells_first {X} {Y} files first second host (inr none) = inr (by first.end none)
   by (Err stop) h = h
 
 -- and what the second one looks up
-pub tells_second : {X Y : Type 0} (files : Files) (first : Read X) (second : X → Read Y) (x : X) (host next : HostState) → Tells files (first >>= second) host → first.end ≡ Ok x → next.files ≡ host.files → Tells files (second x) next
+pub tells_second : {X Y : Type 0} (files : Files) (first : Read X) (second : X → Read Y) (x : X) (host next : HostState) → TellsFiles files (first >>= second) host → first.end ≡ Ok x → next.files ≡ host.files → TellsFiles files (second x) next
 tells_second {X} {Y} files first second x host next (inl told) ok same = inl (same ∙ told)
 tells_second {X} {Y} files first second x host next (inr none) ok same = inr (back_none first.loads (second x).loads (sym (ap (λ end. (both end).loads) ok) ∙ none)) where
   both : Result X read.Stop → Read Y
@@ -93,7 +93,7 @@ stopped_is {X} {Y} first second stop ok = ap both ok where
   both (Ok x) = read.after first.loads (second x)
   both (Err stop) = record { loads = first.loads; end = Err stop }
 
-stops_behind : (place : ℕ) (first second : List Load) (a b c : HostState) → Asks (names_of first) a b → StopsAt place second b c → StopsAt place (first ++ second) a c
+stops_behind : (place : ℕ) (first second : List Load) (a b c : HostState) → Asks (names_of first) a b → AsksUpTo place second b c → AsksUpTo place (first ++ second) a c
 stops_behind place first second a b c asked stops = record {
   before = first ++ stops.before;
   name = stops.name;
@@ -106,7 +106,7 @@ some_behind : (first second : List Load) (a b c : HostState) → Asks (names_of 
 some_behind first second a b c asked some =
     (length (names_of first) + some.0, subst (λ names. Asks names a c) (sym (ap (take (length (names_of first) + some.0)) (names_both first second) ∙ take_behind (names_of first) (names_of second) some.0)) (asks_both (names_of first) (take some.0 (names_of second)) a b c asked some.1))
 
-fails_behind : {Y : Type 0} (fault : BuildFault) (first : List Load) (second : Read Y) (a b c : HostState) → Asks (names_of first) a b → Fails fault second b c → Fails fault (read.after first second) a c
+fails_behind : {Y : Type 0} (fault : BuildFault) (first : List Load) (second : Read Y) (a b c : HostState) → Asks (names_of first) a b → StepFails fault second b c → StepFails fault (read.after first second) a c
 fails_behind (Refused refusal) first second a b c asked fails =
     (fails.0, subst (λ names. Asks names a c) (sym (names_both first second.loads)) (asks_both (names_of first) (names_of second.loads) a b c asked fails.1))
 fails_behind (SourceFault place) first second a b c asked fails = stops_behind place first second.loads a b c asked fails
@@ -122,7 +122,7 @@ pub goes_then : {X Y Z : Type 0} (view : Z → Y) (result : Result Z BuildFault)
 goes_then view result first second x a b c did goes =
     subst (λ step. Goes view result step a c) (sym (both_is first second x did.0)) (goes_behind view result first.loads (second x) a b c did.1 goes)
 
-stops_more : (place : ℕ) (first second : List Load) (a b : HostState) → StopsAt place first a b → StopsAt place (first ++ second) a b
+stops_more : (place : ℕ) (first second : List Load) (a b : HostState) → AsksUpTo place first a b → AsksUpTo place (first ++ second) a b
 stops_more place first second a b stops = record {
   before = stops.before;
   name = stops.name;
@@ -136,15 +136,15 @@ some_more first second a b some =
     (length (take some.0 (names_of first)), subst (λ names. Asks names a b) (take_front (names_of first) (names_of second) some.0 ∙ sym (ap (take (length (take some.0 (names_of first)))) (names_both first second))) some.1)
 
 -- the first step failed
-pub fails_first : {X Y : Type 0} (fault : BuildFault) (first : Read X) (second : X → Read Y) (a b : HostState) → Fails fault first a b → Fails fault (first >>= second) a b
+pub fails_first : {X Y : Type 0} (fault : BuildFault) (first : Read X) (second : X → Read Y) (a b : HostState) → StepFails fault first a b → StepFails fault (first >>= second) a b
 fails_first (Refused refusal) first second a b fails =
-    subst (λ step. Fails (Refused refusal) step a b) (sym (stopped_is first second (read.Refused refusal) fails.0)) (refl, fails.1)
+    subst (λ step. StepFails (Refused refusal) step a b) (sym (stopped_is first second (read.Refused refusal) fails.0)) (refl, fails.1)
 fails_first {X} {Y} (SourceFault place) first second a b fails = by first.end where
   both : Result X read.Stop → Read Y
   both (Ok x) = read.after first.loads (second x)
   both (Err stop) = record { loads = first.loads; end = Err stop }
 
-  by : (end : Result X read.Stop) → Fails (SourceFault place) (both end) a b
+  by : (end : Result X read.Stop) → StepFails (SourceFault place) (both end) a b
   by (Ok x) = stops_more place first.loads (second x).loads a b fails
   by (Err stop) = fails
 fails_first {X} {Y} Memory first second a b fails = by first.end where
@@ -152,16 +152,16 @@ fails_first {X} {Y} Memory first second a b fails = by first.end where
   both (Ok x) = read.after first.loads (second x)
   both (Err stop) = record { loads = first.loads; end = Err stop }
 
-  by : (end : Result X read.Stop) → Fails Memory (both end) a b
+  by : (end : Result X read.Stop) → StepFails Memory (both end) a b
   by (Ok x) = some_more first.loads (second x).loads a b fails
   by (Err stop) = fails
 
 -- ---- steps that look up no file
 
-pub plain_fails : {Y : Type 0} (refused : Try Refusal) (wanted : Result Y Refusal) (a b : HostState) → b.asked ≡ a.asked → tried.Fails refused wanted → Fails (fault_of refused) (plainly wanted) a b
-plain_fails (try.Fault refusal) wanted a b same gives = subst (λ wanted. Fails (Refused refusal) (plainly wanted) a b) (sym gives) (refl, asks_none a b same)
+pub plain_fails : {Y : Type 0} (refused : Try Refusal) (wanted : Result Y Refusal) (a b : HostState) → b.asked ≡ a.asked → tried.TryFails refused wanted → StepFails (fault_of refused) (plainly wanted) a b
+plain_fails (try.Fault refusal) wanted a b same gives = subst (λ wanted. StepFails (Refused refusal) (plainly wanted) a b) (sym gives) (refl, asks_none a b same)
 plain_fails {Y} try.Memory wanted a b same gives = by wanted where
-  by : (wanted : Result Y Refusal) → Fails Memory (plainly wanted) a b
+  by : (wanted : Result Y Refusal) → StepFails Memory (plainly wanted) a b
   by (Ok y) = (0, asks_none a b same)
   by (Err refusal) = (0, asks_none a b same)
 
@@ -172,11 +172,11 @@ plain_goes view (Err refused) wanted a b same gives = plain_fails refused wanted
 -- the same of a step that might have looked up files
 pub read_goes : {X Y : Type 0} (view : X → Y) (result : Result X (Try Refusal)) (wanted : Read Y) (a b : HostState) → b.asked ≡ a.asked → ReadGives view result wanted → Goes view (lifted result) wanted a b
 read_goes view (Ok x) wanted a b same gives = subst (λ wanted. Goes view (Ok x) wanted a b) (sym gives) (refl, asks_none a b same)
-read_goes view (Err (try.Fault refusal)) wanted a b same gives = subst (λ wanted. Fails (Refused refusal) wanted a b) (sym gives) (refl, asks_none a b same)
+read_goes view (Err (try.Fault refusal)) wanted a b same gives = subst (λ wanted. StepFails (Refused refusal) wanted a b) (sym gives) (refl, asks_none a b same)
 read_goes view (Err try.Memory) wanted a b same gives = (0, asks_none a b same)
 
 -- want of memory before the first file
-pub memory_first : {Y : Type 0} (step : Read Y) (a b : HostState) → b.asked ≡ a.asked → Fails Memory step a b
+pub memory_first : {Y : Type 0} (step : Read Y) (a b : HostState) → b.asked ≡ a.asked → StepFails Memory step a b
 memory_first step a b same = (0, asks_none a b same)
 
 -- ---- steps on the way
@@ -190,7 +190,7 @@ pub record GoesOn {Y : Type 0} (whole rest : Read Y) (a b : HostState) : Type 0 
 pub on_start : {Y : Type 0} (whole : Read Y) (a b : HostState) → b.asked ≡ a.asked → GoesOn whole whole a b
 on_start whole a b same = record { first = []; is = refl; asked = asks_none a b same }
 
-pub on_tells : {Y : Type 0} (files : Files) (whole rest : Read Y) (a b : HostState) → GoesOn whole rest a b → b.files ≡ a.files → Tells files whole a → Tells files rest b
+pub on_tells : {Y : Type 0} (files : Files) (whole rest : Read Y) (a b : HostState) → GoesOn whole rest a b → b.files ≡ a.files → TellsFiles files whole a → TellsFiles files rest b
 on_tells files whole rest a b on same (inl told) = inl (same ∙ told)
 on_tells files whole rest a b on same (inr none) = inr (back_none on.first rest.loads (sym (ap (λ (r : Read _). r.loads) on.is) ∙ none)) where
   back_none : {A : Type 0} (xs ys : List A) → xs ++ ys ≡ [] → ys ≡ []

@@ -14,7 +14,7 @@ use Rattle.mlt_tree.specs.declared.entry.Entry.{Entry}
 use Rattle.mlt_tree.specs.declared.entry.Entry.TheVariants.{Clip, Gap}
 use Rattle.mlt_tree.specs.Ranges.{IsEntry, frames}
 use Rattle.mlt_tree.specs.Edits as edit
-use Rattle.mlt_tree.specs.Edits.{Edit, grown, Mixed, frames_in, replaced, with_entry, bad_clip, cut, clip, halves, before_split, mixed_of, mixed_parts}
+use Rattle.mlt_tree.specs.Edits.{Edited, grown, Mixed, frames_in, replaced, with_entry, bad_clip, cut, clip, halves, before_split, mixed_of, mixed_parts}
 use Rattle.mlt_tree.specs.Units.{IsEntryBelow, AreEntriesBelow}
 use Rattle.mlt_playlist.specs.Playlist.{IsList}
 use Rattle.melt_build.specs.State.{IsKnown}
@@ -22,12 +22,12 @@ use Rattle.mlt_playlist.proofs.Counts.{frames_in-part}
 use Rattle.mlt_playlist.proofs.Frames.{has_frame, frames-cut, frames-one, IsEntry-cut}
 
 -- an answer and a list
-abbrev answered : {A : Type 0} → A → List Entry → Edit A
+abbrev answered : {A : Type 0} → A → List Entry → Edited A
 answered x es = Ok (x, es)
 
 pub edit_one : {A : Type 0} (x y : A) (es fs : List Entry) → answered x es ≡ answered y fs → (x ≡ y) × (es ≡ fs)
 edit_one {A} x y es fs h =
-    (ap (λ (r : Edit A). (result_unwrap_or {T = A × List Entry} r (x, es)).0) h, ap (λ (r : Edit A). (result_unwrap_or {T = A × List Entry} r (x, es)).1) h)
+    (ap (λ (r : Edited A). (result_unwrap_or {T = A × List Entry} r (x, es)).0) h, ap (λ (r : Edited A). (result_unwrap_or {T = A × List Entry} r (x, es)).1) h)
 
 not_refused : {A : Type 0} (e : PlayFault) (y : A) (fs : List Entry) → Err e ≡ answered y fs → ⊥
 not_refused e y fs h = grind arith
@@ -41,14 +41,14 @@ grown_is x y es fs h = by (ltb 100000 (length es)) (ltb (frames_in es) (2 ^ 31))
   by false false h = absurd (not_refused _ y fs h)
 
 -- an edit of an entry has one
-pub record Entered {A : Type 0} (es : List Entry) (at : ℕ) (act : Entry → Edit A) (y : A) (fs : List Entry) : Type 0 where
+pub record Entered {A : Type 0} (es : List Entry) (at : ℕ) (act : Entry → Edited A) (y : A) (fs : List Entry) : Type 0 where
   pub entry : Entry
   pub here : slice_get es at ≡ Some entry
   pub done : act entry ≡ answered y fs
 
-pub entered : {A : Type 0} (es : List Entry) (at : ℕ) (act : Entry → Edit A) (y : A) (fs : List Entry) → with_entry es at act ≡ answered y fs → Entered es at act y fs
+pub entered : {A : Type 0} (es : List Entry) (at : ℕ) (act : Entry → Edited A) (y : A) (fs : List Entry) → with_entry es at act ≡ answered y fs → Entered es at act y fs
 entered {A} es at act y fs h = by (slice_get es at) refl h where
-  run : Option Entry → Edit A
+  run : Option Entry → Edited A
   run None = bad_clip es at
   run (Some e) = act e
 
@@ -99,7 +99,7 @@ module _ (P : Entry → Type 0) where
       let e = entered es at (λ e. by e (before_split (frames e) k)) y fs h in
       found e.entry (at_index es at e.entry all e.here) (before_split (frames e.entry) k) (before_split-inside (frames e.entry) k) e.done
     where
-      by : Entry → Option ℕ → Edit (Unit {0})
+      by : Entry → Option ℕ → Edited (Unit {0})
       by e None = Err (PlayFault.BadSplit k (frames e))
       by e (Some count) = grown tt (replaced es at 1 (halves e count))
 
@@ -113,7 +113,7 @@ module _ (P : Entry → Type 0) where
       let e = entered es at by y fs h in
       found e.entry (at_index es at e.entry all e.here) e.done
     where
-      by : Entry → Edit (Unit {0})
+      by : Entry → Edited (Unit {0})
       by (Clip unit s filters) = Ok (tt, replaced es at 1 (Clip unit s (filters ++ filter ∷ []) ∷ []))
       by (Gap count) = bad_clip es at
 
@@ -127,7 +127,7 @@ module _ (P : Entry → Type 0) where
     front : List Entry
     front = take (length es - 2) es
 
-    run : List Entry → Edit (Unit {0})
+    run : List Entry → Edited (Unit {0})
     run [] = edit.too_few es 0 2
     run (a ∷ []) = edit.too_few es 0 2
     run (a ∷ b ∷ rest) = Ok (tt, front ++ (b ∷ a ∷ []))
@@ -161,7 +161,7 @@ pub record IsMixed (at n unit : ℕ) (es : List Entry) (y : Mixed) (fs : List En
 
 pub mixed_is : (at n unit : ℕ) (es fs : List Entry) (y : Mixed) → edit.mix at n unit es ≡ answered y fs → IsMixed at n unit es y fs
 mixed_is at n unit es fs y h = by (drop at es) refl h where
-  run : List Entry → Edit Mixed
+  run : List Entry → Edited Mixed
   run [] = edit.too_few es at 2
   run (a ∷ []) = edit.too_few es at 2
   run (a ∷ b ∷ rest) =

@@ -1,6 +1,7 @@
 -- What is known of a composition's tracks and units.
-use Rattle.std.proofs.Common.{ℕ, ◌≡◌, ◌≤◌, List, [], ◌∷◌, length, map, All, IfSome, Option, None, Some, sym, subst, arith}
+use Rattle.std.proofs.Common.{ℕ, ◌≡◌, ◌≤◌, List, [], ◌∷◌, ◌++◌, length, map, All, IfSome, Option, None, Some, sym, ap, ◌∙◌, subst, arith}
 use Rattle.std.specs.List.{flat_map}
+use Rattle.std.proofs.lemmas.Grind.{common_steps}
 use Rattle.std.proofs.lemmas.List.Elements.{All-nil, All-push, All-append, All-head, All-tail, All-weaker}
 use Rattle.mlt_base.specs.declared.value.UnitId.{UnitId}
 use Rattle.mlt_tree.specs.declared.draft.Draft.{Draft}
@@ -29,6 +30,7 @@ composed_with s entries h known = record {
   made = h.made;
   level = known_entries (length s.made.graph) s.made.table s.level entries h.level known;
   mix = h.mix;
+  placed = h.placed;
 }
 
 draft_more : (n m : ℕ) → n ≤ m → (draft : Draft) → IsKnownDraft n draft → IsKnownDraft m draft
@@ -61,6 +63,7 @@ composed_more s made h now more = record {
   made = now;
   level = level_more (length s.made.graph) (length made.graph) s.made.table made.table s.level more.units more.pictures h.level;
   mix = mix_more s.made.graph made.graph more.mixes s.last_mix h.mix;
+  placed = h.placed;
 }
 
 pub more_same : (old new : Made) → new.graph ≡ old.graph → new.table ≡ old.table → IsMore old new
@@ -96,6 +99,14 @@ level_planted count table level plant known h = record {
   current = known.current;
   maps = All-push (HasMap table) level.plants plant known.maps h;
 }
+
+place_more : (places : List ℕ) (plants : List PendingPlant) (place : ℕ) (plant : PendingPlant) → length places ≡ length plants → length (places ++ place ∷ []) ≡ length (plants ++ plant ∷ [])
+place_more places plants place plant h = grind (arith, common_steps)
+
+-- with its place, each plant still has one
+pub placed_more : (level new : Level) (places more : List ℕ) (place : ℕ) (plant : PendingPlant) → length places ≡ length level.plants → new ≡ with_plant level plant → more ≡ places ++ place ∷ [] → length more ≡ length new.plants
+placed_more level new places more place plant h on at =
+    ap length at ∙ place_more places level.plants place plant h ∙ sym (ap (λ (l : Level). length l.plants) on)
 
 map_within : (table : List Source) (frames : ℕ) (plant : PendingPlant) → HasMap table plant → All (HasPicture table) (maps_of (plant_within frames plant))
 map_within table frames (OnTrack track spec first last) h = All-nil (HasPicture table)

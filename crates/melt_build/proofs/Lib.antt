@@ -7,6 +7,7 @@ mod Levels
 mod Looked
 mod Merged
 mod Mixed
+mod Named
 mod Over
 mod Planted
 mod Producers

@@ -23,7 +23,7 @@ use Rattle.mlt_tree.specs.Services.{called, merge_named}
 use Rattle.melt_build.specs.declared.fault.BuildFault.{BuildFault}
 use Rattle.melt_build.specs.declared.fault.BuildFault.TheVariants.{Refused}
 use Rattle.melt_build.specs.Failing.{fault_of}
-use Rattle.melt_build.specs.Loads.{names_of, Asks, Tells, Fails, Goes}
+use Rattle.melt_build.specs.Loads.{names_of, Asks, TellsFiles, StepFails, Goes}
 use Rattle.melt_build.proofs.Steps.{plain_refused, plain_then, read_tells, read_fails, ends_well, ends_badly}
 use Rattle.melt_build.specs.Plant.{made_of, crossed_in_order, last_mix_merged}
 
@@ -56,7 +56,7 @@ module _ (files : Files) (s : State) (g : Group) where
     unfolding luma_made
     luma_is = refl
 
-    pub softness_fails : (refusal : Refusal) (a : HostState) → share row.SOFTNESS props ≡ Err refusal → Fails (Refused refusal) whole a a
+    pub softness_fails : (refusal : Refusal) (a : HostState) → share row.SOFTNESS props ≡ Err refusal → StepFails (Refused refusal) whole a a
     softness_fails refusal a h =
         plain_refused whole (share row.SOFTNESS props) (λ softness. map_read >>= luma_step softness) luma_is refusal a h
 
@@ -64,10 +64,10 @@ module _ (files : Files) (s : State) (g : Group) where
       rest : whole ≡ (map_read >>= luma_step softness)
       rest = plain_then whole (share row.SOFTNESS props) (λ softness. map_read >>= luma_step softness) luma_is softness is
 
-      pub tells_map : (host : HostState) → Tells files whole host → Tells files map_read host
+      pub tells_map : (host : HostState) → TellsFiles files whole host → TellsFiles files map_read host
       tells_map host tells = read_tells whole map_read (luma_step softness) rest files host tells
 
-      pub map_fails : (fault : BuildFault) (a b : HostState) → Fails fault map_read a b → Fails fault whole a b
+      pub map_fails : (fault : BuildFault) (a b : HostState) → StepFails fault map_read a b → StepFails fault whole a b
       map_fails fault a b fails = read_fails whole map_read (luma_step softness) rest fault a b fails
 
       pub luma_goes : {Z : Type 0} (view : Z → Merging) (z : Z) (map : Made × Option SourceNo) (a b : HostState) → (map_read.end ≡ Ok map) × Asks (names_of map_read.loads) a b → view z ≡ luma_of softness map → Goes view (Ok z) whole a b
@@ -87,13 +87,13 @@ module _ (files : Files) (s : State) (g : Group) where
   unfolding mixer
   mixer_is = refl
 
-  pub transition_unknown : (refusal : Refusal) (a : HostState) → named ≡ Err refusal → Fails (Refused refusal) (transition files s g) a a
+  pub transition_unknown : (refusal : Refusal) (a : HostState) → named ≡ Err refusal → StepFails (Refused refusal) (transition files s g) a a
   transition_unknown refusal a h = plain_refused (transition files s g) named (merge_planted files s g) transition_is refusal a h
 
   pub transition_known : (service : MergeRow) → named ≡ Ok service → transition files s g ≡ merge_planted files s g service
   transition_known service h = plain_then (transition files s g) named (merge_planted files s g) transition_is service h
 
-  pub mixer_unknown : (refusal : Refusal) (a : HostState) → named ≡ Err refusal → Fails (Refused refusal) (mixer files s g) a a
+  pub mixer_unknown : (refusal : Refusal) (a : HostState) → named ≡ Err refusal → StepFails (Refused refusal) (mixer files s g) a a
   mixer_unknown refusal a h = plain_refused (mixer files s g) named (merge_mixed files s g) mixer_is refusal a h
 
   pub mixer_known : (service : MergeRow) → named ≡ Ok service → mixer files s g ≡ merge_mixed files s g service
@@ -122,7 +122,7 @@ module _ (files : Files) (s : State) (g : Group) where
     unfolding merge_planted
     planted_is = refl
 
-    pub tracks_fail : (props : List Prop) (refusal : Refusal) (a : HostState) → crossing s props ≡ Err refusal → props ≡ props_of_word → Fails (Refused refusal) planted a a
+    pub tracks_fail : (props : List Prop) (refusal : Refusal) (a : HostState) → crossing s props ≡ Err refusal → props ≡ props_of_word → StepFails (Refused refusal) planted a a
     tracks_fail props refusal a h same =
         plain_refused planted (crossing s props_of_word) crossing_step planted_is refusal a (subst (λ ps. crossing s ps ≡ Err refusal) same h)
 
@@ -130,15 +130,15 @@ module _ (files : Files) (s : State) (g : Group) where
     planted_rest props tracks h same =
         plain_then planted (crossing s props_of_word) crossing_step planted_is tracks (subst (λ ps. crossing s ps ≡ Ok tracks) same h) ∙ ap (λ ps. made ps >>= crossed_step tracks) (sym same)
 
-    pub tells_planted : (props : List Prop) (tracks : Crossing) (host : HostState) → crossing s props ≡ Ok tracks → Tells files planted host → props ≡ props_of_word → Tells files (made props) host
+    pub tells_planted : (props : List Prop) (tracks : Crossing) (host : HostState) → crossing s props ≡ Ok tracks → TellsFiles files planted host → props ≡ props_of_word → TellsFiles files (made props) host
     tells_planted props tracks host h tells same =
         read_tells planted (made props) (crossed_step tracks) (planted_rest props tracks h same) files host tells
 
-    pub planted_fails : (props : List Prop) (tracks : Crossing) (fault : BuildFault) (a b : HostState) → crossing s props ≡ Ok tracks → Fails fault (made props) a b → props ≡ props_of_word → Fails fault planted a b
+    pub planted_fails : (props : List Prop) (tracks : Crossing) (fault : BuildFault) (a b : HostState) → crossing s props ≡ Ok tracks → StepFails fault (made props) a b → props ≡ props_of_word → StepFails fault planted a b
     planted_fails props tracks fault a b h fails same =
         read_fails planted (made props) (crossed_step tracks) (planted_rest props tracks h same) fault a b fails
 
-    pub crossed_fails : (props : List Prop) (tracks : Crossing) (merging : Merging) (refused : Try Refusal) (a b : HostState) → crossing s props ≡ Ok tracks → ((made props).end ≡ Ok merging) × Asks (names_of (made props).loads) a b → tried.Fails refused (crossed_in_order s g tracks merging) → props ≡ props_of_word → Fails (fault_of refused) planted a b
+    pub crossed_fails : (props : List Prop) (tracks : Crossing) (merging : Merging) (refused : Try Refusal) (a b : HostState) → crossing s props ≡ Ok tracks → ((made props).end ≡ Ok merging) × Asks (names_of (made props).loads) a b → tried.TryFails refused (crossed_in_order s g tracks merging) → props ≡ props_of_word → StepFails (fault_of refused) planted a b
     crossed_fails props tracks merging refused a b h did fails same =
         ends_badly planted (made props) (crossed_step tracks) (planted_rest props tracks h same) merging a b did (crossed_in_order s g tracks merging) (plain_done (ordered g.place tracks.first tracks.last) (λ range. crossed s g tracks merging)) refused fails
 
@@ -161,13 +161,13 @@ module _ (files : Files) (s : State) (g : Group) where
     mixed_rest : (props : List Prop) → props ≡ props_of_word → mixed ≡ (made props >>= mixed_step)
     mixed_rest props same = mixed_is ∙ ap (λ ps. made ps >>= mixed_step) (sym same)
 
-    pub tells_mixed : (props : List Prop) (host : HostState) → Tells files mixed host → props ≡ props_of_word → Tells files (made props) host
+    pub tells_mixed : (props : List Prop) (host : HostState) → TellsFiles files mixed host → props ≡ props_of_word → TellsFiles files (made props) host
     tells_mixed props host tells same = read_tells mixed (made props) mixed_step (mixed_rest props same) files host tells
 
-    pub mixed_fails : (props : List Prop) (fault : BuildFault) (a b : HostState) → Fails fault (made props) a b → props ≡ props_of_word → Fails fault mixed a b
+    pub mixed_fails : (props : List Prop) (fault : BuildFault) (a b : HostState) → StepFails fault (made props) a b → props ≡ props_of_word → StepFails fault mixed a b
     mixed_fails props fault a b fails same = read_fails mixed (made props) mixed_step (mixed_rest props same) fault a b fails
 
-    pub merged_fails : (props : List Prop) (merging : Merging) (refused : Try Refusal) (a b : HostState) → ((made props).end ≡ Ok merging) × Asks (names_of (made props).loads) a b → tried.Fails refused (last_mix_merged s g.place merging) → props ≡ props_of_word → Fails (fault_of refused) mixed a b
+    pub merged_fails : (props : List Prop) (merging : Merging) (refused : Try Refusal) (a b : HostState) → ((made props).end ≡ Ok merging) × Asks (names_of (made props).loads) a b → tried.TryFails refused (last_mix_merged s g.place merging) → props ≡ props_of_word → StepFails (fault_of refused) mixed a b
     merged_fails props merging refused a b did fails same =
         ends_badly mixed (made props) mixed_step (mixed_rest props same) merging a b did (last_mix_merged s g.place merging) (plain_done (or_refuse g.place cause.NoMix s.last_mix) (λ unit. with_mix_merged s unit merging)) refused fails
 

@@ -3,18 +3,19 @@ use Rattle.std.proofs.Common.{ℕ, ◌≡◌, ◌≢◌, ◌<◌, ◌≤◌, Boo
 use Rattle.std.specs.List.{flat_map}
 use Rattle.std.proofs.lemmas.Bool.Decides.{nat_tests}
 use Rattle.std.proofs.lemmas.Grind.{common_steps, flat_map-append}
-use Rattle.std.proofs.lemmas.List.{append-nil, get_or_default, get_or_append_left, get_or-set_same, get_or-set_other, get_or_push, length-set}
+use Rattle.std.proofs.lemmas.List.{map-append, append-nil, get_or_default, get_or_append_left, get_or-set_same, get_or-set_other, get_or_push, length-set}
 use Rattle.std.proofs.lemmas.List.Elements.{All-append}
 use Rattle.mlt_tree.specs.declared.entry.Entry.{Entry}
 use Rattle.mlt_tree.specs.declared.merge.MergeSpec.{MergeSpec}
 use Rattle.mlt_tree.specs.declared.node.Body.{Body}
 use Rattle.mlt_tree.specs.declared.node.Body.TheVariants.{Tractor, Source as SourceOf, Entries}
 use Rattle.mlt_tree.specs.declared.node.Node.{Node}
+use Rattle.mlt_tree.specs.declared.node.Track.TheVariants.{Half}
 use Rattle.mlt_tree.specs.declared.tree.Attached.{Attached}
 use Rattle.mlt_tree.specs.declared.tree.Plant.{Plant}
 use Rattle.mlt_tree.specs.Show.{Source}
 use Rattle.mlt_tree.specs.Sources.{FitsBody, HasPicture, maps_of, maps_of_merge}
-use Rattle.mlt_tree.specs.Units.{list_unit, mix_unit, mixer, mix_frames, planted_more, with_merge, with_mixer, with_filter, with_unit_filter, IsMix, IsMixOf}
+use Rattle.mlt_tree.specs.Units.{list_unit, mix_of, mix_unit, mixer, mix_frames, planted_more, with_merge, with_mixer, with_filter, with_unit_filter, IsMix, IsMixOf}
 use Rattle.melt_build.specs.State.{FitsUnits}
 
 longer : (us : List Node) (u : Node) (k : ℕ) → k < length us → k < length (us ++ u ∷ [])
@@ -36,7 +37,7 @@ behind us u k h = grind (arith, common_steps)
 pub mix_made : (us : List Node) (a b : Entry) (frames k : ℕ) → 1 ≤ frames → k ≡ length us → IsMix (us ++ mix_unit a b frames ∷ []) k
 mix_made us a b frames k some h = record {
   there = behind us (mix_unit a b frames) k h;
-  mix = subst (λ (n : Node). IsMixOf n.body) (sym (get_or_push us (mix_unit a b frames) (list_unit []) k (sym h))) (record { a = a; b = b; frames = frames; plants = []; some = some; is = refl });
+  mix = subst (λ (n : Node). IsMixOf n.body) (sym (get_or_push us (mix_unit a b frames) (list_unit []) k (sym h))) (record { a = a; b = b; frames = frames; merges = []; some = some; is = refl });
 }
 
 -- ---- one unit changed
@@ -76,21 +77,25 @@ mix_set us unit new k keeps h = record {
 pub filter_mixes : (us : List Node) (unit : ℕ) (filter : Attached) (k : ℕ) → IsMix us k → IsMix (with_unit_filter us unit filter) k
 filter_mixes us unit filter k h = mix_set us unit (with_filter (get_or us unit (list_unit [])) filter) k (λ mix. mix) h
 
-planted_mix : (body : Body) (plant : Plant) → IsMixOf body → IsMixOf (planted_more body plant)
-planted_mix body plant h = record {
+-- a mix with one merge more, which acts after those that it has
+more_merged : (a b : Entry) (frames : ℕ) (merges : List MergeSpec) (spec : MergeSpec) → planted_more (mix_of a b frames merges) (mixer frames spec) ≡ mix_of a b frames (merges ++ spec ∷ [])
+more_merged a b frames merges spec = ap (Tractor (Half a frames ∷ Half b frames ∷ [])) (sym (map-append (mixer frames) merges (spec ∷ [])))
+
+planted_mix : (body : Body) (spec : MergeSpec) → IsMixOf body → IsMixOf (planted_more body (mixer (mix_frames body) spec))
+planted_mix body spec h = record {
   a = h.a;
   b = h.b;
   frames = h.frames;
   some = h.some;
-  plants = h.plants ++ plant ∷ [];
-  is = ap (λ body. planted_more body plant) h.is;
+  merges = h.merges ++ spec ∷ [];
+  is = ap (λ body. planted_more body (mixer (mix_frames body) spec)) h.is ∙ more_merged h.a h.b h.frames h.merges spec;
 }
 
 -- with a merge more
 pub merge_mixes : (us : List Node) (unit : ℕ) (spec : MergeSpec) (k : ℕ) → IsMix us k → IsMix (with_mixer us unit spec) k
 merge_mixes us unit spec k h =
     let old : Node = get_or us unit (list_unit []) in
-    mix_set us unit (with_merge old spec) k (planted_mix old.body (mixer (mix_frames old.body) spec)) h
+    mix_set us unit (with_merge old spec) k (planted_mix old.body spec) h
 
 pub merge_length : (us : List Node) (unit : ℕ) (spec : MergeSpec) → length (with_mixer us unit spec) ≡ length us
 merge_length us unit spec =

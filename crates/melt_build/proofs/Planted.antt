@@ -8,7 +8,7 @@ use Rattle.mlt_tree.specs.declared.services.FilterRow.{FilterRow}
 use Rattle.mlt_tree.specs.declared.services.TheConstants as row
 use Rattle.mlt_tree.specs.Attaching.{Asked, asked_by, filter_props}
 use Rattle.mlt_tree.specs.Composition.{State}
-use Rattle.mlt_tree.specs.Planting.{current, planted, filter_planted, plant_filter}
+use Rattle.mlt_tree.specs.Planting.{current, with_planted, filter_planted, plant_filter}
 use Rattle.mlt_tree.specs.Props.{number}
 use Rattle.mlt_tree.specs.Services.{called, filter_named}
 use Rattle.mlt_tree.specs.declared.merge.MergeSpec.{MergeSpec}
@@ -21,17 +21,17 @@ use Rattle.melt_build.proofs.Levels.{mix_more}
 use Rattle.melt_build.proofs.Mixed.{merge_fits, merge_length, merge_mixes}
 
 -- with what a plant leaves of the level and of the places
-pub planted_is : (s : State) (place : ℕ) (plant : PendingPlant) (level : Level) (places : List ℕ) → level ≡ with_plant s.level plant → places ≡ s.plant_places ++ place ∷ [] → planted s place plant ≡ record s { level = level; plant_places = places }
+pub planted_is : (s : State) (place : ℕ) (plant : PendingPlant) (level : Level) (places : List ℕ) → level ≡ with_plant s.level plant → places ≡ s.plant_places ++ place ∷ [] → with_planted s place plant ≡ record s { level = level; plant_places = places }
 planted_is s place plant level places on at =
     ap (λ l. record s { level = l; plant_places = s.plant_places ++ place ∷ [] }) (sym on) ∙ ap (λ ps. record s { level = level; plant_places = ps }) (sym at)
 
 -- a filter whose word names one, with what its properties ask for
 module _ (s : State) (g : Group) (service : FilterRow) (named : Option ℕ) (asked : Asked) where
-  filter_by : filter_named (called g.arg).id ≡ Some service → number row.TRACK (filter_props s g service) ≡ Ok named → asked_by s g service.kind (filter_props s g service) ≡ Ok asked → plant_filter s g ≡ Ok (planted s g.place (OnTrack (unwrap_or named (current s)) asked.spec asked.first asked.last))
+  filter_by : filter_named (called g.arg).id ≡ Some service → number row.TRACK (filter_props s g service) ≡ Ok named → asked_by s g service.kind (filter_props s g service) ≡ Ok asked → plant_filter s g ≡ Ok (with_planted s g.place (OnTrack (unwrap_or named (current s)) asked.spec asked.first asked.last))
   unfolding plant_filter filter_planted
   filter_by found track asks = rw (found, track, asks) refl
 
-  pub filter_done : (props : List Prop) → filter_named (called g.arg).id ≡ Some service → number row.TRACK props ≡ Ok named → asked_by s g service.kind props ≡ Ok asked → props ≡ filter_props s g service → plant_filter s g ≡ Ok (planted s g.place (OnTrack (unwrap_or named (current s)) asked.spec asked.first asked.last))
+  pub filter_done : (props : List Prop) → filter_named (called g.arg).id ≡ Some service → number row.TRACK props ≡ Ok named → asked_by s g service.kind props ≡ Ok asked → props ≡ filter_props s g service → plant_filter s g ≡ Ok (with_planted s g.place (OnTrack (unwrap_or named (current s)) asked.spec asked.first asked.last))
   filter_done props found track asks same =
       filter_by found (subst (λ ps. number row.TRACK ps ≡ Ok named) same track) (subst (λ ps. asked_by s g service.kind ps ≡ Ok asked) same asks)
 
@@ -44,4 +44,5 @@ merged_composed s units unit spec composed maps is = subst (λ us. IsComposed (r
   };
   level = subst (λ n. IsKnownLevel n s.made.table s.level) (sym (merge_length s.made.graph unit spec)) composed.level;
   mix = mix_more s.made.graph (with_mixer s.made.graph unit spec) (merge_mixes s.made.graph unit spec) s.last_mix composed.mix;
+  placed = composed.placed;
 })

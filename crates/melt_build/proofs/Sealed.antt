@@ -1,13 +1,15 @@
 -- What sealing a graph refuses is what the definitions refuse.
-use Rattle.std.proofs.Common.{ℕ, ◌≡◌, ◌<◌, ◌≤◌, Bool, true, false, cond, ltb, ltb-true, leb, nat_eq, List, [], ◌∷◌, ◌++◌, length, get_or, Option, None, Some, Result, Ok, Err, refl, sym, ap, ◌∙◌, subst, arith}
+use Rattle.std.proofs.Common.{ℕ, ◌≡◌, ◌+◌, ◌<◌, ◌≤◌, Bool, true, false, cond, ltb, ltb-true, leb, nat_eq, List, [], ◌∷◌, ◌++◌, length, get_or, Option, None, Some, Result, Ok, Err, refl, sym, ap, ◌∙◌, subst, arith}
+use Rattle.std.specs.List.{zip}
 use Rattle.std.proofs.Math.Seq.{get_or-append_seam}
 use Rattle.std.proofs.lemmas.Bool.Decides.{nat_tests}
 use Rattle.std.proofs.lemmas.Grind.{common_steps}
-use Rattle.std.proofs.lemmas.List.{get_or_append_left}
+use Rattle.std.proofs.lemmas.List.{append_assoc, get_or_append_left}
 use Rattle.mlt_base.specs.Steps.{◌>>=◌}
-use Rattle.mlt_base.specs.Try.{Fails}
+use Rattle.mlt_base.specs.Try.{TryFails}
 use Rattle.mlt_base.specs.declared.refusal.Try.{Try}
 use Rattle.mlt_base.specs.declared.refusal.Try.TheVariants as try
+use Rattle.mlt_tree.specs.declared.draft.PendingPlant.{PendingPlant}
 use Rattle.mlt_tree.specs.declared.node.Node.{Node}
 use Rattle.mlt_tree.specs.declared.refusal.Cause.TheVariants as cause
 use Rattle.mlt_tree.specs.declared.refusal.Refusal.{Refusal}
@@ -16,15 +18,15 @@ use Rattle.mlt_tree.specs.Show.{Source}
 use Rattle.mlt_tree.specs.Sources.{FitsBody}
 use Rattle.melt_build.specs.State.{FitsUnits}
 use Rattle.mlt_tree.specs.Composition.{State}
-use Rattle.mlt_tree.specs.Sealing.{plants_placed, sealable, show_of_tree, all_units, whole_tree}
+use Rattle.mlt_tree.specs.Sealing.{refuse_plant, each_on_tracks, plants_placed, sealable, show_of_tree, all_units, whole_tree}
 use Rattle.mlt_tree.specs.Sealing.{seal as seal_of}
 use Rattle.mlt_tree.specs.Sizes.{weight}
 use Rattle.mlt_tree.specs.Tree.{Tree, len}
-use Rattle.mlt_tree.specs.Units.{Level, tree_of, depth_of, node_tree, tractor_of, drafts_of, Misplaced, OffTracks, Doubled, level_misplaced}
+use Rattle.mlt_tree.specs.Units.{Level, tree_of, depth_of, node_tree, tractor_of, drafts_of, Misplaced, OffTracks, Doubled, misplaced, numbered_or, first_misplaced, level_misplaced}
 use Rattle.mlt_graph.specs.declared.fault.GraphFault.{GraphFault}
 use Rattle.mlt_graph.specs.declared.fault.GraphFault.TheVariants.{BadTrack, SameTrack, NoProducer, TooDeep, TooMany}
 use Rattle.mlt_graph.specs.Graph.{misplaced_fault, tractor_fault, FailsBy}
-use Rattle.mlt_graph.specs.Seal.{seal}
+use Rattle.mlt_graph.specs.Seal.{sealed_within}
 use Rattle.mlt_graph.specs.Sealed.{Shown}
 use Rattle.mlt_graph.proofs.Trees.{tree_of-new}
 use Rattle.melt_build.specs.Built.{refusal_of, checked}
@@ -70,8 +72,49 @@ nothing_there count us level h =
 
 -- ---- what is planted, and then the graph
 
+-- what is wrong with a numbered plant is refused at the place of that number
+abbrev by_number : List ℕ → (tracks : ℕ) → Option (ℕ × Misplaced) → Result (Unit {0}) Refusal
+by_number places tracks None = Ok tt
+by_number places tracks (Some (plant, OffTracks track)) = refuse (get_or places plant 0) (cause.BadTrack track tracks)
+by_number places tracks (Some (plant, Doubled track)) = refuse (get_or places plant 0) (cause.SameTrack track)
+
+abbrev pub checked_by : (count : ℕ) (places : List ℕ) (tracks : ℕ) → Option (ℕ × Misplaced) → List Node → (top : ℕ) → Result (Unit {0}) Refusal
+checked_by count places tracks wrong units top = by_number places tracks wrong >>= λ on_tracks. sealable count units top
+
+one_more : (before : List ℕ) (place : ℕ) → length (before ++ place ∷ []) ≡ length before + 1
+one_more before place = grind (arith, common_steps)
+
+-- one plant with its place, where the rest are refused as their numbers say
+each_step : (tracks : ℕ) (before places : List ℕ) (place : ℕ) (plant : PendingPlant) (plants : List PendingPlant) → each_on_tracks tracks (zip places plants) ≡ by_number ((before ++ place ∷ []) ++ places) tracks (first_misplaced tracks (length (before ++ place ∷ [])) plants) → each_on_tracks tracks (zip (place ∷ places) (plant ∷ plants)) ≡ by_number (before ++ place ∷ places) tracks (first_misplaced tracks (length before) (plant ∷ plants))
+each_step tracks before places place plant plants h = by (misplaced tracks plant) where
+  later : Option (ℕ × Misplaced)
+  later = first_misplaced tracks (length before + 1) plants
+
+  rest : each_on_tracks tracks (zip places plants) ≡ by_number (before ++ place ∷ places) tracks later
+  rest =
+      h
+      ∙ ap (λ all. by_number all tracks (first_misplaced tracks (length (before ++ place ∷ [])) plants)) (append_assoc before (place ∷ []) places)
+      ∙ ap (λ n. by_number (before ++ place ∷ places) tracks (first_misplaced tracks n plants)) (one_more before place)
+
+  by : (wrong : Option Misplaced) → (refuse_plant place tracks wrong >>= λ done. each_on_tracks tracks (zip places plants)) ≡ by_number (before ++ place ∷ places) tracks (numbered_or (length before) wrong later)
+  by None = rest
+  by (Some (OffTracks track)) = ap (λ at. refuse at (cause.BadTrack track tracks)) (sym (get_or-append_seam before place places 0))
+  by (Some (Doubled track)) = ap (λ at. refuse at (cause.SameTrack track)) (sym (get_or-append_seam before place places 0))
+
+-- plants and their places, behind other places: the first that is misplaced is refused at its number's place
+each_from : (tracks : ℕ) (before places : List ℕ) (plants : List PendingPlant) → length places ≡ length plants → each_on_tracks tracks (zip places plants) ≡ by_number (before ++ places) tracks (first_misplaced tracks (length before) plants)
+each_from tracks before [] [] h = refl
+each_from tracks before [] (plant ∷ plants) h = absurd (omega (arith, h))
+each_from tracks before (place ∷ places) [] h = absurd (omega (arith, h))
+each_from tracks before (place ∷ places) (plant ∷ plants) h =
+    each_step tracks before places place plant plants (each_from tracks (before ++ place ∷ []) places plants (omega (arith, h)))
+
+pub checked_as : (count : ℕ) (places : List ℕ) (level : Level) (units : List Node) (top : ℕ) → length places ≡ length level.plants → checked count places level units top ≡ checked_by count places (length (drafts_of level)) (level_misplaced level) units top
+checked_as count places level units top h =
+    ap (λ r. r >>= λ on_tracks. sealable count units top) (each_from (length (drafts_of level)) [] places level.plants h)
+
 -- a tractor that is refused
-pub not_added : (A : Type 0) (count : ℕ) (places : List ℕ) (us : List Node) (level : Level) (fault : GraphFault) → FailsBy {A = A} (tractor_fault level (len (node_tree (tree_of us) (tractor_of level)))) (Err fault) → Fails (refusal_of count places fault) (checked count places (length (drafts_of level)) (level_misplaced level) (us ++ tractor_of level ∷ []) (length us))
+pub not_added : (A : Type 0) (count : ℕ) (places : List ℕ) (us : List Node) (level : Level) (fault : GraphFault) → FailsBy {A = A} (tractor_fault level (len (node_tree (tree_of us) (tractor_of level)))) (Err fault) → TryFails (refusal_of count places fault) (checked_by count places (length (drafts_of level)) (level_misplaced level) (us ++ tractor_of level ∷ []) (length us))
 not_added A count places us level fault h = by (level_misplaced level) refl h where
   frames : ℕ
   frames = len (node_tree (tree_of us) (tractor_of level))
@@ -83,7 +126,7 @@ not_added A count places us level fault h = by (level_misplaced level) refl h wh
   all = us ++ tractor_of level ∷ []
 
   IsRefused : GraphFault → Option (ℕ × Misplaced) → Type 0
-  IsRefused fault wrong = Fails (refusal_of count places fault) (checked count places tracks wrong all (length us))
+  IsRefused fault wrong = TryFails (refusal_of count places fault) (checked_by count places tracks wrong all (length us))
 
   fault_by : Option (ℕ × Misplaced) → Option GraphFault
   fault_by (Some wrong) = Some (misplaced_fault tracks wrong)
@@ -135,22 +178,22 @@ added_is {A} us level x h = by (level_misplaced level) refl h where
   by (Some wrong) is h = absurd (not_both (misplaced_fault tracks wrong) h)
 
 -- a graph that is refused
-pub not_sealed : (count : ℕ) (places : List ℕ) (us : List Node) (top : ℕ) (fault : GraphFault) → 1 ≤ len (tree_of us top) → seal us top ≡ Err fault → Fails (refusal_of count places fault) (sealable count us top)
+pub not_sealed : (count : ℕ) (places : List ℕ) (us : List Node) (top : ℕ) (fault : GraphFault) → 1 ≤ len (tree_of us top) → sealed_within us top ≡ Err fault → TryFails (refusal_of count places fault) (sealable count us top)
 not_sealed count places us top fault some h =
     by (ltb 16 (depth_of us top)) refl (ltb 65536 (weight (tree_of us top))) refl h
   where
     frames : nat_eq (len (tree_of us top)) 0 ≡ false
     frames = equals_none (len (tree_of us top)) some
 
-    by : (b : Bool) → ltb 16 (depth_of us top) ≡ b → (c : Bool) → ltb 65536 (weight (tree_of us top)) ≡ c → outcome b c (TooDeep (depth_of us top)) (TooMany 65536) (record { units = us; top = top }) ≡ Err fault → Fails (refusal_of count places fault) (sealable count us top)
+    by : (b : Bool) → ltb 16 (depth_of us top) ≡ b → (c : Bool) → ltb 65536 (weight (tree_of us top)) ≡ c → outcome b c (TooDeep (depth_of us top)) (TooMany 65536) (record { units = us; top = top }) ≡ Err fault → TryFails (refusal_of count places fault) (sealable count us top)
     by true deep c heavy h =
-        subst (λ f. Fails (refusal_of count places f) (sealable count us top)) (ap (err_or fault) h) (tested count us top false false (leb (weight (tree_of us top)) 65536) frames (greater 16 (depth_of us top) deep) refl)
+        subst (λ f. TryFails (refusal_of count places f) (sealable count us top)) (ap (err_or fault) h) (tested count us top false false (leb (weight (tree_of us top)) 65536) frames (greater 16 (depth_of us top) deep) refl)
     by false deep true heavy h =
-        subst (λ f. Fails (refusal_of count places f) (sealable count us top)) (ap (err_or fault) h) (tested count us top false true false frames (not_greater 16 (depth_of us top) deep) (greater 65536 (weight (tree_of us top)) heavy))
+        subst (λ f. TryFails (refusal_of count places f) (sealable count us top)) (ap (err_or fault) h) (tested count us top false true false frames (not_greater 16 (depth_of us top) deep) (greater 65536 (weight (tree_of us top)) heavy))
     by false deep false heavy h = let apart : ⊥ = grind arith in absurd apart
 
 -- a graph that is sealed
-pub sealed_well : (count : ℕ) (us : List Node) (top : ℕ) (shown : Shown) → 1 ≤ len (tree_of us top) → seal us top ≡ Ok shown → sealable count us top ≡ Ok tt
+pub sealed_well : (count : ℕ) (us : List Node) (top : ℕ) (shown : Shown) → 1 ≤ len (tree_of us top) → sealed_within us top ≡ Ok shown → sealable count us top ≡ Ok tt
 sealed_well count us top shown some h =
     by (ltb 16 (depth_of us top)) refl (ltb 65536 (weight (tree_of us top))) refl h
   where
@@ -164,9 +207,9 @@ sealed_well count us top shown some h =
         tested count us top false true true frames (not_greater 16 (depth_of us top) deep) (not_greater 65536 (weight (tree_of us top)) heavy)
 
 -- what is said of the graph is said of the whole, where the plants are on tracks that are there
-pub checked_is : (count : ℕ) (places : List ℕ) (us : List Node) (level : Level) (all : List Node) (top : ℕ) → IsAdded us level → checked count places (length (drafts_of level)) (level_misplaced level) all top ≡ sealable count all top
+pub checked_is : (count : ℕ) (places : List ℕ) (us : List Node) (level : Level) (all : List Node) (top : ℕ) → IsAdded us level → checked_by count places (length (drafts_of level)) (level_misplaced level) all top ≡ sealable count all top
 checked_is count places us level all top added =
-    ap (λ wrong. checked count places (length (drafts_of level)) wrong all top) added.on_tracks
+    ap (λ wrong. checked_by count places (length (drafts_of level)) wrong all top) added.on_tracks
 
 last_unit : (us : List Node) (u : Node) (unit : ℕ) → unit < length (us ++ u ∷ []) → ltb unit (length us) ≡ false → unit ≡ length us
 last_unit us u unit below outside = grind (arith, common_steps, nat_tests)
@@ -182,7 +225,7 @@ fits_more table us u own h unit node below is = by (ltb unit (length us)) refl w
       subst (λ n. FitsBody table n.body) (sym (is ∙ ap (λ k. get_or (us ++ u ∷ []) k node) last ∙ get_or-append_seam us u [] node)) own
 
 -- a composition that can be sealed is the show of its tree
-pub seal-tree : (count : ℕ) (s : State) → checked count s.plant_places (length (drafts_of s.level)) (level_misplaced s.level) (all_units s) (length s.made.units) ≡ Ok tt → seal_of count s ≡ show_of_tree count s (whole_tree s)
+pub seal-tree : (count : ℕ) (s : State) → checked count s.plant_places s.level (all_units s) (length s.made.units) ≡ Ok tt → seal_of count s ≡ show_of_tree count s (whole_tree s)
 unfolding seal_of
 seal-tree count s h = by (plants_placed s) (sealable count (all_units s) (length s.made.units)) h where
   by : (a b : Result (Unit {0}) Refusal) → (a >>= λ on_tracks. b) ≡ Ok tt → (a >>= λ on_tracks. b >>= λ whole. show_of_tree count s (whole_tree s)) ≡ show_of_tree count s (whole_tree s)
@@ -191,7 +234,7 @@ seal-tree count s h = by (plants_placed s) (sealable count (all_units s) (length
   by (Err e) b h = let apart : ⊥ = grind arith in absurd apart
 
 -- one that can't is refused
-pub seal-fails : (count : ℕ) (s : State) (refused : Try Refusal) → Fails refused (checked count s.plant_places (length (drafts_of s.level)) (level_misplaced s.level) (all_units s) (length s.made.units)) → Fails refused (seal_of count s)
+pub seal-fails : (count : ℕ) (s : State) (refused : Try Refusal) → TryFails refused (checked count s.plant_places s.level (all_units s) (length s.made.units)) → TryFails refused (seal_of count s)
 unfolding seal_of
 seal-fails count s (try.Fault refusal) h = by (plants_placed s) (sealable count (all_units s) (length s.made.units)) h where
   by : (a b : Result (Unit {0}) Refusal) → (a >>= λ on_tracks. b) ≡ Err refusal → (a >>= λ on_tracks. b >>= λ whole. show_of_tree count s (whole_tree s)) ≡ Err refusal

@@ -4,7 +4,7 @@ use Rattle.std.proofs.lemmas.Grind.{common_steps}
 use Rattle.std.proofs.lemmas.List.Elements.{All-nil}
 use Rattle.std.specs.Result.{result_unwrap_or}
 use Rattle.mlt_base.specs.Steps.{◌>>=◌}
-use Rattle.mlt_base.specs.Try.{Fails, TryGives}
+use Rattle.mlt_base.specs.Try.{TryFails, TryGives}
 use Rattle.mlt_base.specs.declared.faults.PlayFault.{PlayFault}
 use Rattle.mlt_base.specs.declared.limits.TheConstants.{MOST_ENTRIES}
 use Rattle.mlt_base.specs.declared.refusal.Try.{Try}
@@ -18,8 +18,8 @@ use Rattle.mlt_tree.specs.declared.tree.Hide.{Hide}
 use Rattle.mlt_tree.specs.Composition as meaning
 use Rattle.mlt_tree.specs.Composition.{on_last, edited, track, with_track, repeat}
 use Rattle.mlt_tree.specs.Edits as edit
-use Rattle.mlt_tree.specs.Edits.{Edit, Mixed, clip, frames_in}
-use Rattle.mlt_tree.specs.Planting.{mix_kept, begin_track, mixed}
+use Rattle.mlt_tree.specs.Edits.{Edited, Mixed, clip, frames_in}
+use Rattle.mlt_tree.specs.Planting.{mix_kept, begin_track, mixed_at}
 use Rattle.mlt_tree.specs.Props.{counted}
 use Rattle.mlt_tree.specs.Refusing.{at_group}
 use Rattle.mlt_tree.specs.Show.{Source}
@@ -63,30 +63,30 @@ on_last_is s g act last h = by (track s) h where
   by (e ∷ es) h = ap act (omega (arith, h))
 
 module _ {A : Type 0} where
-  pub edited_gives : (s t : meaning.State) (g : Group) (done : Edit A) (old new : List Entry) (r : Result A (Try PlayFault)) → t ≡ with_track s new → Does done old new r → TryGives (λ x. t) (edited_at g.place r) (edited s g done)
+  pub edited_gives : (s t : meaning.State) (g : Group) (done : Edited A) (old new : List Entry) (r : Result A (Try PlayFault)) → t ≡ with_track s new → Does done old new r → TryGives (λ x. t) (edited_at g.place r) (edited s g done)
   edited_gives s t g done old new (Ok x) is h =
       ap (λ d. meaning.edited s g d) h ∙ ap (λ u. Ok u) (sym is)
   edited_gives s t g done old new (Err (Fault fault)) is h = ap (λ d. meaning.edited s g d) h.0
   edited_gives s t g done old new (Err Memory) is h = tt
 
-  pub last_gives : (s : State) (g : Group) (act : ℕ → Edit A) (last : ℕ) (new : List Entry) (r : Result A (Try PlayFault)) → IsComposed s → length s.level.current.entries ≡ last + 1 → Does (act last) s.level.current.entries new r → TryGives (λ x. state_view (changed s new)) (edited_at g.place r) (on_last (state_view s) g (λ last. edited (state_view s) g (act last)))
+  pub last_gives : (s : State) (g : Group) (act : ℕ → Edited A) (last : ℕ) (new : List Entry) (r : Result A (Try PlayFault)) → IsComposed s → length s.level.current.entries ≡ last + 1 → Does (act last) s.level.current.entries new r → TryGives (λ x. state_view (changed s new)) (edited_at g.place r) (on_last (state_view s) g (λ last. edited (state_view s) g (act last)))
   last_gives s g act last new r composed there h =
       subst (TryGives (λ x. state_view (changed s new)) (edited_at g.place r)) (sym (on_last_is (state_view s) g (λ last. edited (state_view s) g (act last)) last there)) (edited_gives (state_view s) (state_view (changed s new)) g (act last) s.level.current.entries new r refl h)
 
-  pub stays_composed : (s : State) (place : ℕ) (done : Edit A) (new : List Entry) (r : Result A (Try PlayFault)) → IsComposed s → Does done s.level.current.entries new r → ((x : A) → done ≡ Ok (x, new) → All (IsKnown (length s.made.graph)) new) → OnOk (edited_at place r) (IsComposed (changed s new))
+  pub stays_composed : (s : State) (place : ℕ) (done : Edited A) (new : List Entry) (r : Result A (Try PlayFault)) → IsComposed s → Does done s.level.current.entries new r → ((x : A) → done ≡ Ok (x, new) → All (IsKnown (length s.made.graph)) new) → OnOk (edited_at place r) (IsComposed (changed s new))
   stays_composed s place done new (Ok x) composed h keeps = composed_with s new composed (keeps x h)
   stays_composed s place done new (Err (Fault fault)) composed h keeps = tt
   stays_composed s place done new (Err Memory) composed h keeps = tt
 
   -- an edit that was not refused is done
-  pub edited_done : (place : ℕ) (done : Edit A) (old new : List Entry) (r : Result A (Try PlayFault)) (x : A) → edited_at place r ≡ Ok x → Does done old new r → done ≡ Ok (x, new)
+  pub edited_done : (place : ℕ) (done : Edited A) (old new : List Entry) (r : Result A (Try PlayFault)) (x : A) → edited_at place r ≡ Ok x → Does done old new r → done ≡ Ok (x, new)
   edited_done place done old new (Ok y) x is h =
       h ∙ ap (λ (r : Result A (Try Refusal)). Ok (result_unwrap_or r x, new)) is
   edited_done place done old new (Err (Fault fault)) x is h = let apart : ⊥ = grind arith in absurd apart
   edited_done place done old new (Err Memory) x is h = let apart : ⊥ = grind arith in absurd apart
 
   -- the same of an edit that takes no memory
-  pub grouped_done : (place : ℕ) (done : Edit A) (old new : List Entry) (r : Result A PlayFault) (x : A) → at_group place r ≡ Ok x → DoesAlways done old new r → done ≡ Ok (x, new)
+  pub grouped_done : (place : ℕ) (done : Edited A) (old new : List Entry) (r : Result A PlayFault) (x : A) → at_group place r ≡ Ok x → DoesAlways done old new r → done ≡ Ok (x, new)
   grouped_done place done old new (Ok y) x is h =
       h ∙ ap (λ (r : Result A Refusal). Ok (result_unwrap_or r x, new)) is
   grouped_done place done old new (Err fault) x is h = let apart : ⊥ = grind arith in absurd apart
@@ -123,6 +123,7 @@ module _ (s : State) (u : Node) (entries : List Entry) (mix : Option UnitId) (co
         };
         level = subst (λ us. IsKnownLevel (length us) table (with_entries s.level entries)) (sym is) (known_entries (length all) table s.level entries now known);
         mix = subst (λ us. IfSome mix (λ unit. IsMix us unit.0)) (sym is) mixed;
+        placed = composed.placed;
       }
 
 -- with a clip of a new unit of what was joined
@@ -138,7 +139,7 @@ joined_composed s units at n unit new joined short composed is number done =
 -- ---- mixes
 
 -- a mix that was not refused is done
-pub mix_done : (place : ℕ) (done : Edit Mixed) (old new : List Entry) (r : Result MixParts (Try PlayFault)) (parts : MixParts) → edited_at place r ≡ Ok parts → Does done old new (answer_of r) → done ≡ Ok (mixed_view parts, new)
+pub mix_done : (place : ℕ) (done : Edited Mixed) (old new : List Entry) (r : Result MixParts (Try PlayFault)) (parts : MixParts) → edited_at place r ≡ Ok parts → Does done old new (answer_of r) → done ≡ Ok (mixed_view parts, new)
 mix_done place done old new (Ok x) parts is h =
     h ∙ ap (λ (r : Result MixParts (Try Refusal)). Ok (mixed_view (result_unwrap_or r parts), new)) is
 mix_done place done old new (Err (Fault fault)) parts is h = let apart : ⊥ = grind arith in absurd apart
@@ -157,22 +158,22 @@ mixed_composed s units at n unit new parts some list composed is number done =
     unit_composed s u new (Some unit) composed (All-nil (HasPicture s.made.table)) units is known (mix_made graph parts.a parts.b parts.frames unit.0 are.some number)
 
 module _ (s : meaning.State) (g : Group) (n : ℕ) (new : List Entry) where
-  abbrev asked : Edit Mixed
+  abbrev asked : Edited Mixed
   asked = edit.mix (length (track s) - 2) n (length s.made.units) (track s)
 
   not_ok : {A E : Type 0} (x : A) (e : E) → Ok x ≡ (Err e) → ⊥
   not_ok x e h = grind arith
 
   -- a mix that is refused
-  pub mix_fails : (r : Result MixParts (Try PlayFault)) (refused : Try Refusal) → edited_at g.place r ≡ Err refused → Does asked (track s) new (answer_of r) → Fails refused (mixed s g n)
+  pub mix_fails : (r : Result MixParts (Try PlayFault)) (refused : Try Refusal) → edited_at g.place r ≡ Err refused → Does asked (track s) new (answer_of r) → TryFails refused (mixed_at s g (length (track s) - 2) n)
   mix_fails (Ok x) refused is h = absurd (not_ok x refused is)
   mix_fails (Err (Fault fault)) refused is h =
-      subst (λ f. Fails f (mixed s g n)) (ap (err_or {A = MixParts} refused) is) (ap (λ d. at_group g.place d >>= λ done. Ok (with_mix s done)) h.0)
+      subst (λ f. TryFails f (mixed_at s g (length (track s) - 2) n)) (ap (err_or {A = MixParts} refused) is) (ap (λ d. at_group g.place d >>= λ done. Ok (with_mix s done)) h.0)
   mix_fails (Err Memory) refused is h =
-      subst (λ f. Fails f (mixed s g n)) (ap (err_or {A = MixParts} refused) is) tt
+      subst (λ f. TryFails f (mixed_at s g (length (track s) - 2) n)) (ap (err_or {A = MixParts} refused) is) tt
 
   -- one that is not
-  pub mix_gives : (parts : MixParts) (units : List Node) (unit : ℕ) → asked ≡ Ok (mixed_view parts, new) → units ≡ s.made.units ++ mix_unit parts.a parts.b parts.frames ∷ [] → unit ≡ length s.made.units → mixed s g n ≡ Ok (record (with_track s new) { made = record s.made { units = units }; last_mix = Some unit })
+  pub mix_gives : (parts : MixParts) (units : List Node) (unit : ℕ) → asked ≡ Ok (mixed_view parts, new) → units ≡ s.made.units ++ mix_unit parts.a parts.b parts.frames ∷ [] → unit ≡ length s.made.units → mixed_at s g (length (track s) - 2) n ≡ Ok (record (with_track s new) { made = record s.made { units = units }; last_mix = Some unit })
   mix_gives parts units unit done is number =
       ap (λ d. at_group g.place d >>= λ done. Ok (with_mix s done)) done
       ∙ ap (λ us. Ok (record (with_track s new) { made = record s.made { units = us }; last_mix = Some (length s.made.units) })) (sym is)
@@ -209,6 +210,33 @@ track_known count table level new hide known is = by level.current.entries refl 
       subst (IsKnownLevel count table) (same stays new h) (record { closed = known.closed; current = known.current; maps = known.maps })
   by (e ∷ es) here h = full (ltb (length (drafts_of level)) 256) h
 
+-- the plants stay
+pub track_plants : (level new : Level) (hide : Hide) → new_track level hide ≡ Ok new → new.plants ≡ level.plants
+track_plants level new hide is = by level.current.entries is where
+  stays : Level
+  stays = record level { current = record level.current { hide = hide } }
+
+  begins : Level
+  begins = record level { closed = drafts_of level; current = empty_draft hide }
+
+  run : List Entry → Result Level PlayFault
+  run [] = Ok stays
+  run (e ∷ es) = cond (ltb (length (drafts_of level)) 256) (Ok begins) (Err (PlayFault.TooMany 256))
+
+  okay : Level → Result Level PlayFault
+  okay level = Ok level
+
+  same : (level : Level) → okay level ≡ okay new → new.plants ≡ level.plants
+  same level h = ap (λ (r : Result Level PlayFault). (result_unwrap_or r level).plants) (sym h)
+
+  full : (b : Bool) → cond b (okay begins) (Err (PlayFault.TooMany 256)) ≡ okay new → new.plants ≡ level.plants
+  full true h = same begins h
+  full false h = let apart : ⊥ = grind arith in absurd apart
+
+  by : (es : List Entry) → run es ≡ Ok new → new.plants ≡ level.plants
+  by [] h = same stays h
+  by (e ∷ es) h = full (ltb (length (drafts_of level)) 256) h
+
 module _ (video audio : Bool) (s : meaning.State) (g : Group) (new : Level) where
   abbrev hide : Hide
   hide = record { video = video; audio = audio }
@@ -222,13 +250,13 @@ module _ (video audio : Bool) (s : meaning.State) (g : Group) (new : Level) wher
   no_track x e h = grind arith
 
   -- a track that is refused
-  pub track_fails : (r : Result (Unit {0}) (Try PlayFault)) (refused : Try Refusal) → edited_at g.place r ≡ Err refused → Begins (new_track s.level hide) s.level new r → Fails refused (begin_track video audio s g)
+  pub track_fails : (r : Result (Unit {0}) (Try PlayFault)) (refused : Try Refusal) → edited_at g.place r ≡ Err refused → Begins (new_track s.level hide) s.level new r → TryFails refused (begin_track video audio s g)
   unfolding begin_track
   track_fails (Ok x) refused is h = absurd (no_track x refused is)
   track_fails (Err (Fault fault)) refused is h =
-      subst (λ f. Fails f (begin_track video audio s g)) (ap (err_or {A = Unit {0}} refused) is) (ap (λ d. at_group g.place d >>= λ level. Ok (record s { level = level; last_mix = mix_kept (track s) s.last_mix })) h.0)
+      subst (λ f. TryFails f (begin_track video audio s g)) (ap (err_or {A = Unit {0}} refused) is) (ap (λ d. at_group g.place d >>= λ level. Ok (record s { level = level; last_mix = mix_kept (track s) s.last_mix })) h.0)
   track_fails (Err Memory) refused is h =
-      subst (λ f. Fails f (begin_track video audio s g)) (ap (err_or {A = Unit {0}} refused) is) tt
+      subst (λ f. TryFails f (begin_track video audio s g)) (ap (err_or {A = Unit {0}} refused) is) tt
 
 -- a track that was not refused has begun
 pub track_done : (place : ℕ) (done : Result Level PlayFault) (old new : Level) (r : Result (Unit {0}) (Try PlayFault)) (x : Unit {0}) → edited_at place r ≡ Ok x → Begins done old new r → done ≡ Ok new

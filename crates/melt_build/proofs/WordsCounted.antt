@@ -6,7 +6,7 @@ use Rattle.mlt_base.specs.Name.{name_of}
 use Rattle.mlt_tree.specs.declared.group.Group.{Group}
 use Rattle.mlt_tree.specs.declared.group.Prop.{Prop}
 use Rattle.mlt_tree.specs.declared.table.Row.{Row}
-use Rattle.mlt_tree.specs.Table.{row_of}
+use Rattle.mlt_tree.specs.Table.{option_row}
 use Rattle.mlt_tree.specs.GroupWords.{prop_word, own_words_by, own_words, words_of, words_in}
 use Rattle.mlt_tree.proofs.Counts.{behind_words}
 use Rattle.melt_build.specs.WordCount.{behind, has_argument, behind_group}
@@ -24,7 +24,7 @@ of_own n g (Some row) = by row.argument where
 
 of_group : (n : ℕ) (g : Group) → behind_group n g ≡ behind_words n (words_of g)
 of_group n g =
-    of_props _ g.props ∙ ap (λ m. behind_words m (map prop_word g.props)) (of_own n g (row_of g.kind)) ∙ sym (fold-append _ n (own_words g) (map prop_word g.props))
+    of_props _ g.props ∙ ap (λ m. behind_words m (map prop_word g.props)) (of_own n g (option_row g.kind)) ∙ sym (fold-append _ n (own_words g) (map prop_word g.props))
 
 of_groups : (n : ℕ) (gs : List Group) → fold behind_group n gs ≡ behind_words n (flat_map words_of gs)
 of_groups n [] = refl

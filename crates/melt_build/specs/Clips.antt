@@ -1,7 +1,7 @@
 -- What a producer's word asks for and makes, as the definitions see it.
 use Rattle.mlt_tree.specs.Clips as meaning
 use Rattle.melt_build.specs.declared.wanted.Origin.{Origin}
-use Rattle.melt_build.specs.declared.wanted.Origin.TheVariants.{Colour, Picture}
+use Rattle.melt_build.specs.declared.wanted.Origin.TheVariants.{Colour, Picture, Words}
 use Rattle.melt_build.specs.declared.wanted.Product.{Product}
 use Rattle.melt_build.specs.declared.wanted.Wanted.{Wanted}
 use Rattle.melt_build.specs.declared.state.Made.{Made}
@@ -11,6 +11,7 @@ use Rattle.melt_build.specs.State.{made_view}
 abbrev pub origin_view : Origin → meaning.Origin
 origin_view (Colour colour) = meaning.OfColour (pixel colour)
 origin_view (Picture name) = meaning.OfPicture name.now
+origin_view (Words name) = meaning.OfWords name.now
 
 abbrev pub wanted_view : Wanted → meaning.Wanted
 wanted_view asked = record { first = asked.first; last = asked.last; length = asked.length }

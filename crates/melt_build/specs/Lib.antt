@@ -3,11 +3,11 @@ pub mod Built
 pub mod Clips
 pub mod Edited
 pub mod Failing
-pub mod Given
 pub mod Loaded
 pub mod Loads
 pub mod Object
 pub mod Plant
+pub mod Properties
 pub mod Reads
 pub mod Service
 pub mod State

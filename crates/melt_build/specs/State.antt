@@ -86,11 +86,12 @@ pub record IsMade (made : Made) : Type 0 where
   pub few : made.loaded ≤ MOST_LOADED
   pub fits : FitsUnits made.table made.graph
 
--- the last mix is a unit that is one
+-- the last mix is a unit that is one, and each plant has the place of its group
 pub record IsComposed (s : State) : Type 0 where
   pub made : IsMade s.made
   pub level : IsKnownLevel (length s.made.graph) s.made.table s.level
   pub mix : IfSome s.last_mix (λ unit. IsMix s.made.graph unit.0)
+  pub placed : length s.plant_places.items ≡ length s.level.plants
 
 -- what was made stays there: units, those that are mixes, and pictures
 pub record IsMore (old new : Made) : Type 0 where

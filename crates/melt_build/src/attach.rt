@@ -13,11 +13,11 @@ ghost use Rattle.mlt_tree.specs.Ranges.{IsFilter, IsAttached};
 ghost use Rattle.mlt_tree.specs.declared.group.Group.{Group as GroupOf};
 ghost use Rattle.mlt_tree.specs.declared.refusal.Refusal.{Refusal as RefusalOf};
 ghost use Rattle.melt_build.specs.Attach.{asked_view, IsAsked, acted};
-ghost use Rattle.melt_build.specs.Given.{front_in, props_in};
+ghost use Rattle.melt_build.specs.Properties.{front_in, props_in};
 ghost use Rattle.melt_build.specs.State.{IsComposed, state_view};
 
 use crate::object::Object;
-use crate::props::{Front, Given};
+use crate::props::{Front, Properties};
 use crate::refused::edited;
 use crate::service::{called, filter_named};
 use crate::state::State;
@@ -64,7 +64,7 @@ pub(crate) fn ordered(place: u32, first: u32, last: Option<u32>) -> Result<(), R
     }
 }
 
-impl Given<'_, '_, '_> {
+impl Properties<'_, '_, '_> {
     /// How many pixels are cut at each edge.
     #[tactic(auto, unfolding(mlt_tree::specs::Attaching::crop_of))]
     fn crop_of(&self) -> Result<FilterSpec, Refusal>
@@ -185,7 +185,7 @@ impl State<'_> {
         let Some(row) = filter_named(word.id) else {
             return Err(Try::Fault(Refusal::at(group.place, Cause::UnknownService)));
         };
-        let given = Given {
+        let given = Properties {
             front: front_of(group.place, row.first, word.value),
             inherited: &self.inherited,
             own,
@@ -204,7 +204,7 @@ impl State<'_> {
         asked
     }
 
-    /// The clip that stands last, by its index, its unit and its frames.
+    /// The clip that stands last, by its index, its unit and its frames; no entry is refused, and a gap.
     fn last_clip(&self, place: u32) -> Result<LastClip, Refusal>
         requires { IsComposed self.now }
         ensures value { (group : GroupOf) (act : UnitIdOf → SpanOf → Result StateOf RefusalOf) → group.place ≡ place →
@@ -215,16 +215,15 @@ impl State<'_> {
     {
         let list = self.level.last_list();
         let count = list.count();
-        let Some(index) = count.checked_sub(1) else {
-            return Err(no_entry(place));
-        };
+        let index = count.saturating_sub(1);
         match list.entry(index) {
+            None => Err(no_entry(place)),
             Some(Entry::Clip { unit, span, .. }) => Ok(LastClip {
                 index,
                 unit: *unit,
                 span: *span,
             }),
-            _ => Err(Refusal::at(
+            Some(Entry::Gap { .. }) => Err(Refusal::at(
                 place,
                 Cause::BadClip {
                     index: index as u32,

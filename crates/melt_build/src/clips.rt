@@ -5,20 +5,21 @@ ghost use Rattle.mlt_base.specs.ProfileView.{measures_of};
 ghost use Rattle.mlt_base.specs.Try.{Gives, TryGives};
 ghost use Rattle.mlt_tree.specs.Clips as meaning;
 ghost use Rattle.mlt_tree.specs.Composing as composing;
+ghost use Rattle.mlt_tree.specs.Composing.{no_words};
 ghost use Rattle.mlt_tree.specs.Composition.{State as StateOf, props_of};
 ghost use Rattle.mlt_tree.specs.Loading.{Files};
 ghost use Rattle.mlt_tree.specs.declared.group.Group.{Group as GroupOf};
 ghost use Rattle.mlt_host.specs.Host.{OnlyLoads};
 ghost use Rattle.mlt_source.specs.Sources.{source_of};
 ghost use Rattle.melt_build.specs.Clips.{origin_view, wanted_view, asked_view, product_view};
-ghost use Rattle.melt_build.specs.Given.{props_in};
-ghost use Rattle.melt_build.specs.Loads.{Tells, Goes, CountsLoads};
+ghost use Rattle.melt_build.specs.Properties.{props_in};
+ghost use Rattle.melt_build.specs.Loads.{TellsFiles, Goes, CountsBuildLoads};
 ghost use Rattle.melt_build.specs.Service.{named_view};
 ghost use Rattle.melt_build.specs.State.{IsComposed, IsMade, IsMore, made_view, state_view, cut_view};
 
 use crate::fault::BuildFault;
 use crate::object::Object;
-use crate::props::Given;
+use crate::props::Properties;
 use crate::refused::edited;
 use crate::service::{Named, colour_name, producer_of};
 use crate::state::{Made, State};
@@ -51,21 +52,6 @@ pub(crate) fn cut_of(place: u32, length: u32, first: u32, out: Option<u32>) -> R
     }
 }
 
-/// The value of a service.
-fn origin_of<'a>(place: u32, named: Named<'a>) -> Result<Origin<'a>, Refusal>
-    ensures { Gives origin_view result (meaning.origin_of place (named_view named.entry)) }
-{
-    match named.producer {
-        Producer::Colour => match Colour::read(colour_name(named.arg)) {
-            Some(colour) => Ok(Origin::Colour(colour)),
-            None => Err(Refusal::at(place, Cause::BadValue)),
-        },
-        Producer::Picture => Ok(Origin::Picture(named.arg)),
-        Producer::Sound => Err(Refusal::at(place, Cause::Unsupported)),
-        Producer::Melt => Err(Refusal::at(place, Cause::Unsupported)),
-    }
-}
-
 /// The length of a source: what is asked for, else its own, or as far as the clip goes where that is more.
 fn length_by(own: u32, last: Option<u32>, length: Option<u32>) -> u32
     requires own { (1 ≤ own) × (own < 2 ^ 31) }
@@ -83,21 +69,58 @@ fn length_by(own: u32, last: Option<u32>, length: Option<u32>) -> u32
     }
 }
 
-impl Given<'_, '_, '_> {
-    /// The frames and the length that the properties ask for.
+impl Properties<'_, '_, '_> {
+    /// The first frame and the last that the properties ask for.
+    #[tactic(auto, unfolding(mlt_tree::specs::Clips::range_by))]
+    fn range_by(&self, profile: &Profile) -> Result<Wanted, Refusal>
+        ensures { (s : StateOf) (group : GroupOf) → props_of s group ≡ props_in self.now → s.profile ≡ measures_of profile.now →
+            Gives wanted_view result (meaning.range_by s group) }
+    {
+        let first = self.moment_or_first(&row::IN, profile)?;
+        let last = self.moment(&row::OUT, profile)?;
+        Ok(Wanted {
+            first,
+            last,
+            length: None,
+        })
+    }
+
+    /// The frames, and then the length.
     #[tactic(auto, unfolding(mlt_tree::specs::Clips::wanted_by))]
     fn wanted_by(&self, profile: &Profile) -> Result<Wanted, Refusal>
         ensures { (s : StateOf) (group : GroupOf) → props_of s group ≡ props_in self.now → s.profile ≡ measures_of profile.now →
             Gives wanted_view result (meaning.wanted_by s group) }
     {
-        let first = self.moment_or_first(&row::IN, profile)?;
-        let last = self.moment(&row::OUT, profile)?;
+        let range = self.range_by(profile)?;
         let length = self.number(&row::LENGTH)?;
         Ok(Wanted {
-            first,
-            last,
+            first: range.first,
+            last: range.last,
             length,
         })
+    }
+
+    /// What a service takes, for the word at a place: its value, and the frames.
+    fn asked_of<'g>(
+        &self,
+        profile: &Profile,
+        place: u32,
+        named: Named<'g>,
+    ) -> Result<(Origin<'g>, Wanted), Refusal>
+        ensures { (s : StateOf) (group : GroupOf) → props_of s group ≡ props_in self.now → s.profile ≡ measures_of profile.now → group.place ≡ place →
+            Gives asked_view result (meaning.asked_of s group (named_view named.entry).arg named.entry.producer) }
+    {
+        match named.producer {
+            Producer::Colour => {
+                let Some(colour) = Colour::read(colour_name(named.arg)) else {
+                    return Err(Refusal::at(place, Cause::BadValue));
+                };
+                Ok((Origin::Colour(colour), self.wanted_by(profile)?))
+            }
+            Producer::Picture => Ok((Origin::Picture(named.arg), self.wanted_by(profile)?)),
+            Producer::Sound => Err(Refusal::at(place, Cause::Unsupported)),
+            Producer::Melt => Ok((Origin::Words(named.arg), self.range_by(profile)?)),
+        }
     }
 }
 
@@ -135,7 +158,7 @@ impl Made {
         Ok(Product { unit, frames })
     }
 
-    /// What a producer makes, for the word at a place.
+    /// What a producer makes, for the word at a place; a file of words is refused, since none is read yet.
     fn product_of<H: Host>(
         &mut self,
         alloc: Global,
@@ -147,24 +170,25 @@ impl Made {
     ) -> Result<Product, BuildFault>
         requires { IsMade self.old }
         ensures goes { (files : Files) (s : StateOf) (group : GroupOf) → s.made ≡ made_view self.old → s.profile ≡ measures_of profile.now → group.place ≡ place →
-            Tells files (composing.product_of files s group (origin_view origin.entry) (wanted_view asked)) (H.state host.old) →
-            Goes (product_view self.new) result (composing.product_of files s group (origin_view origin.entry) (wanted_view asked)) (H.state host.old) (H.state host.new) }
+            TellsFiles files (composing.product_of files no_words s group (origin_view origin.entry) (wanted_view asked)) (H.state host.old) →
+            Goes (product_view self.new) result (composing.product_of files no_words s group (origin_view origin.entry) (wanted_view asked)) (H.state host.old) (H.state host.new) }
         ensures made { OnOk result (IsMade self.new) }
         ensures more { OnOk result (IsMore self.old self.new) }
         ensures there { IfOk result (λ product. product.unit.0 < length self.new.graph) }
         ensures frames { IfOk result (λ product. (1 ≤ product.frames) × (product.frames < 2 ^ 31)) }
-        ensures counts { CountsLoads result (H.state host.old) (H.state host.new) }
+        ensures counts { CountsBuildLoads result (H.state host.old) (H.state host.new) }
         ensures rest { OnlyLoads (H.state host.old) (H.state host.new) }
     {
         match origin {
             Origin::Colour(colour) => Ok(self.source_made(profile, Source::Colour(colour), asked)?),
             Origin::Picture(name) => self.picture_made(alloc, profile, place, name, asked, host),
+            Origin::Words(_) => Err(BuildFault::Refused(Refusal::at(place, Cause::Unsupported))),
         }
     }
 }
 
 impl State<'_> {
-    /// What a producer's word asks for: its value and the frames.
+    /// What a producer's word asks for: the value of the service that it names, and the frames.
     #[tactic(auto, unfolding(mlt_tree::specs::Clips::asked_for))]
     fn asked_for<'g>(
         &self,
@@ -177,13 +201,12 @@ impl State<'_> {
         let Some(named) = producer_of(group.arg.as_str()) else {
             return Err(Refusal::at(group.place, Cause::UnknownService));
         };
-        let origin = origin_of(group.place, named)?;
-        let given = Given {
+        let given = Properties {
             front: None,
             inherited: &self.inherited,
             own,
         };
-        Ok((origin, given.wanted_by(&self.profile)?))
+        given.asked_of(&self.profile, group.place, named)
     }
 
     /// The clip of what was made, at the track's end.
@@ -225,10 +248,10 @@ impl State<'_> {
     ) -> Result<(), BuildFault>
         requires composed { IsComposed self.old }
         requires own { own.now.words.now ≡ group.now.props }
-        ensures goes { (files : Files) → Tells files (composing.producer files (state_view self.old) group.now) (H.state host.old) →
-            Goes (λ _. state_view self.new) result (composing.producer files (state_view self.old) group.now) (H.state host.old) (H.state host.new) }
+        ensures goes { (files : Files) → TellsFiles files (composing.producer files no_words (state_view self.old) group.now) (H.state host.old) →
+            Goes (λ _. state_view self.new) result (composing.producer files no_words (state_view self.old) group.now) (H.state host.old) (H.state host.new) }
         ensures composed { OnOk result (IsComposed self.new) }
-        ensures counts { CountsLoads result (H.state host.old) (H.state host.new) }
+        ensures counts { CountsBuildLoads result (H.state host.old) (H.state host.new) }
         ensures rest { OnlyLoads (H.state host.old) (H.state host.new) }
     {
         let (origin, asked) = self.asked_for(group, own)?;

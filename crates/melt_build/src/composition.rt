@@ -1,24 +1,24 @@
 //! From groups to a composition: what is not built first, then the profile, then the groups in word order.
 
-ghost use Rattle.std.specs.Prelude.{◌≡◌, ◌≢◌, IfOk, OnOk, None};
+ghost use Rattle.std.specs.Prelude.{◌≡◌, ◌≢◌, IfOk, OnOk};
 ghost use Rattle.std.specs.Option.{option_map};
 ghost use Rattle.mlt_base.specs.Try.{Gives, TryGives};
-ghost use Rattle.mlt_tree.specs.Composing.{producer as producer_of, effect as effect_of, composed as composed_of};
-ghost use Rattle.mlt_tree.specs.Composition.{profile_step as profile_step_of, profile_named, consumer as consumer_of, inherit as inherit_of, start as start_of, default_profile};
+ghost use Rattle.mlt_tree.specs.Composing.{no_words, producer as producer_of, effect as effect_of, composed as composed_of};
+ghost use Rattle.mlt_tree.specs.Composition.{profile_read as profile_read_of, profile_named as profile_named_of, consumer as consumer_of, inherit as inherit_of, begun as begun_of, default_profile};
 ghost use Rattle.mlt_tree.specs.Loading.{Files, through};
-ghost use Rattle.mlt_tree.specs.Refusing.{over};
-ghost use Rattle.mlt_tree.specs.Sealing.{framed as framed_of};
+ghost use Rattle.mlt_tree.specs.Sealing.{profiled as profiled_of};
 ghost use Rattle.mlt_base.specs.ProfileView.{measures_of};
 ghost use Rattle.mlt_host.specs.Host.{OnlyLoads};
 ghost use Rattle.mlt_tree.specs.declared.group.GroupKind.TheVariants as kind;
-ghost use Rattle.melt_build.specs.Loads.{Tells, Goes, CountsLoads};
+ghost use Rattle.melt_build.specs.Loads.{TellsFiles, Goes, CountsBuildLoads};
 ghost use Rattle.melt_build.specs.Reads.{ReadGives};
 ghost use Rattle.melt_build.specs.State.{IsComposed, state_view};
 
 use crate::built::all_built;
 use crate::fault::{BuildFault, lifted};
+use crate::groups::first_two;
 use crate::object::Object;
-use crate::props::Given;
+use crate::props::Properties;
 use crate::state::{Made, State};
 use mlt_base::{DV_PAL, Profile, Rate, Try};
 use mlt_graph::{Graph, Level};
@@ -42,48 +42,38 @@ fn default_profile() -> Profile
     }
 }
 
-/// The first `-profile`; a second is refused.
-fn profile_named(found: Option<Profile>, group: &Group) -> Result<Option<Profile>, Refusal>
-    ensures { Gives (option_map measures_of) result (profile_named (option_map measures_of found) group.now) }
+/// The profile that a group's word names.
+fn profile_read(group: &Group) -> Result<Profile, Refusal>
+    ensures { Gives measures_of result (profile_read_of group.now) }
 {
-    match found {
-        Some(_) => Err(Refusal::at(group.place, Cause::TooMany { limit: 1 })),
-        None => match Profile::read(group.arg.as_str()) {
-            None => Err(Refusal::at(group.place, Cause::BadValue)),
-            Some(profile) => Ok(Some(profile)),
-        },
+    match Profile::read(group.arg.as_str()) {
+        None => Err(Refusal::at(group.place, Cause::BadValue)),
+        Some(profile) => Ok(profile),
     }
 }
 
-/// The first `-profile` of the groups so far.
-#[tactic(auto, unfolding(mlt_tree::specs::Composition::profile_step))]
-fn profile_step(found: Option<Profile>, group: &Group) -> Result<Option<Profile>, Refusal>
-    ensures { Gives (option_map measures_of) result (profile_step_of (option_map measures_of found) group.now) }
+/// The profile that the groups name, if they name one; a second `-profile` is refused.
+fn profile_named(groups: &[Group]) -> Result<Option<Profile>, Refusal>
+    ensures { Gives (option_map measures_of) result (profile_named_of groups.now) }
 {
-    match group.kind {
-        GroupKind::Profile => profile_named(found, group),
-        _ => Ok(found),
+    let (first, second) = first_two(groups, GroupKind::Profile);
+    let Some(first) = first else {
+        return Ok(None);
+    };
+    let profile = profile_read(first)?;
+    match second {
+        None => Ok(Some(profile)),
+        Some(second) => Err(Refusal::at(second.place, Cause::TooMany { limit: 1 })),
     }
-}
-
-/// The profile that the groups name, if they name one.
-fn find_profile(groups: &[Group]) -> Result<Option<Profile>, Refusal>
-    ensures { Gives (option_map measures_of) result (over profile_step_of None groups.now) }
-{
-    let mut found = None;
-    for group in groups {
-        found = profile_step(found, group)?;
-    }
-    Ok(found)
 }
 
 /// The profile of the groups, none of which is not built.
-#[tactic(auto, unfolding(mlt_tree::specs::Sealing::framed))]
-fn framed(groups: &[Group]) -> Result<Profile, Refusal>
-    ensures { Gives measures_of result (framed_of groups.now) }
+#[tactic(auto, unfolding(mlt_tree::specs::Sealing::profiled))]
+fn profiled(groups: &[Group]) -> Result<Profile, Refusal>
+    ensures { Gives measures_of result (profiled_of groups.now) }
 {
     all_built(groups)?;
-    Ok(find_profile(groups)?.unwrap_or(default_profile()))
+    Ok(profile_named(groups)?.unwrap_or(default_profile()))
 }
 
 impl<'a> State<'a> {
@@ -95,10 +85,10 @@ impl<'a> State<'a> {
         host: &mut H,
     ) -> Result<(), BuildFault>
         requires { IsComposed self.old }
-        ensures goes { (files : Files) → Tells files (producer_of files (state_view self.old) group.now) (H.state host.old) →
-            Goes (λ _. state_view self.new) result (producer_of files (state_view self.old) group.now) (H.state host.old) (H.state host.new) }
+        ensures goes { (files : Files) → TellsFiles files (producer_of files no_words (state_view self.old) group.now) (H.state host.old) →
+            Goes (λ _. state_view self.new) result (producer_of files no_words (state_view self.old) group.now) (H.state host.old) (H.state host.new) }
         ensures composed { OnOk result (IsComposed self.new) }
-        ensures counts { CountsLoads result (H.state host.old) (H.state host.new) }
+        ensures counts { CountsBuildLoads result (H.state host.old) (H.state host.new) }
         ensures rest { OnlyLoads (H.state host.old) (H.state host.new) }
     {
         let own = Object::read(alloc, group.props.as_slice())?;
@@ -115,7 +105,7 @@ impl<'a> State<'a> {
     {
         let own = Object::read(alloc, group.props.as_slice())?;
         let none = Object::none(alloc);
-        let given = Given {
+        let given = Properties {
             front: None,
             inherited: &none,
             own: &own,
@@ -145,7 +135,7 @@ impl<'a> State<'a> {
         requires producer { group.now.kind ≢ kind.Producer }
         requires transition { group.now.kind ≢ kind.Transition }
         requires mixer { group.now.kind ≢ kind.Mixer }
-        ensures value { (files : Files) → ReadGives (λ _. state_view self.new) result (effect_of files (state_view self.old) group.now) }
+        ensures value { (files : Files) → ReadGives (λ _. state_view self.new) result (effect_of files no_words (state_view self.old) group.now) }
         ensures composed { OnOk result (IsComposed self.new) }
     {
         match group.kind {
@@ -191,10 +181,10 @@ impl<'a> State<'a> {
         host: &mut H,
     ) -> Result<(), BuildFault>
         requires { IsComposed self.old }
-        ensures goes { (files : Files) → Tells files (effect_of files (state_view self.old) group.now) (H.state host.old) →
-            Goes (λ _. state_view self.new) result (effect_of files (state_view self.old) group.now) (H.state host.old) (H.state host.new) }
+        ensures goes { (files : Files) → TellsFiles files (effect_of files no_words (state_view self.old) group.now) (H.state host.old) →
+            Goes (λ _. state_view self.new) result (effect_of files no_words (state_view self.old) group.now) (H.state host.old) (H.state host.new) }
         ensures composed { OnOk result (IsComposed self.new) }
-        ensures counts { CountsLoads result (H.state host.old) (H.state host.new) }
+        ensures counts { CountsBuildLoads result (H.state host.old) (H.state host.new) }
         ensures rest { OnlyLoads (H.state host.old) (H.state host.new) }
     {
         if group.kind == GroupKind::Producer {
@@ -216,10 +206,10 @@ impl<'a> State<'a> {
         host: &mut H,
     ) -> Result<(), BuildFault>
         requires { IsComposed self.old }
-        ensures goes { (files : Files) → Tells files (through (effect_of files) (state_view self.old) groups.now) (H.state host.old) →
-            Goes (λ _. state_view self.new) result (through (effect_of files) (state_view self.old) groups.now) (H.state host.old) (H.state host.new) }
+        ensures goes { (files : Files) → TellsFiles files (through (effect_of files no_words) (state_view self.old) groups.now) (H.state host.old) →
+            Goes (λ _. state_view self.new) result (through (effect_of files no_words) (state_view self.old) groups.now) (H.state host.old) (H.state host.new) }
         ensures composed { OnOk result (IsComposed self.new) }
-        ensures counts { CountsLoads result (H.state host.old) (H.state host.new) }
+        ensures counts { CountsBuildLoads result (H.state host.old) (H.state host.new) }
         ensures rest { OnlyLoads (H.state host.old) (H.state host.new) }
     {
         for group in groups {
@@ -230,8 +220,8 @@ impl<'a> State<'a> {
 }
 
 /// Before the first of so many words.
-fn start<'a>(alloc: Global, profile: Profile, count: u32) -> Result<State<'a>, AllocError>
-    ensures value { IfOk result (λ s. state_view s ≡ start_of (measures_of profile) count) }
+fn begun<'a>(alloc: Global, profile: Profile, count: u32) -> Result<State<'a>, AllocError>
+    ensures value { IfOk result (λ s. state_view s ≡ begun_of (measures_of profile) count) }
     ensures composed { IfOk result IsComposed }
 {
     let level = Level::new(alloc)?;
@@ -258,14 +248,14 @@ pub(crate) fn composed<'a, H: Host>(
     groups: &'a [Group],
     host: &mut H,
 ) -> Result<State<'a>, BuildFault>
-    ensures goes { (files : Files) → Tells files (composed_of files count groups.now) (H.state host.old) →
+    ensures goes { (files : Files) → TellsFiles files (composed_of files count groups.now) (H.state host.old) →
         Goes state_view result (composed_of files count groups.now) (H.state host.old) (H.state host.new) }
     ensures composed { IfOk result IsComposed }
-    ensures counts { CountsLoads result (H.state host.old) (H.state host.new) }
+    ensures counts { CountsBuildLoads result (H.state host.old) (H.state host.new) }
     ensures rest { OnlyLoads (H.state host.old) (H.state host.new) }
 {
-    let profile = framed(groups)?;
-    let mut state = start(alloc, profile, count)?;
+    let profile = profiled(groups)?;
+    let mut state = begun(alloc, profile, count)?;
     match state.effects(alloc, groups, host) {
         Ok(()) => Ok(state),
         Err(fault) => {

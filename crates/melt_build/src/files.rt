@@ -11,7 +11,7 @@ ghost use Rattle.mlt_tree.specs.Loading.{Files};
 ghost use Rattle.mlt_tree.specs.Merging.{map_made as map_made_of};
 ghost use Rattle.mlt_tree.specs.Sources.{HasPicture, numbered};
 ghost use Rattle.melt_build.specs.Clips.{wanted_view, product_view};
-ghost use Rattle.melt_build.specs.Loads.{Tells, Goes, CountsLoads};
+ghost use Rattle.melt_build.specs.Loads.{TellsFiles, Goes, CountsBuildLoads};
 ghost use Rattle.melt_build.specs.State.{IsMade, IsMore, made_view};
 
 use crate::fault::BuildFault;
@@ -41,10 +41,10 @@ fn load<H: Host>(
     limit: u64,
     host: &mut H,
 ) -> Result<Vec<u8>, BuildFault>
-    ensures goes { (files : Files) → Tells files (file_within files place name.now limit) (H.state host.old) →
+    ensures goes { (files : Files) → TellsFiles files (file_within files place name.now limit) (H.state host.old) →
         Goes (λ bytes. bytes.items) result (file_within files place name.now limit) (H.state host.old) (H.state host.new) }
     ensures within { IfOk result (λ bytes. length bytes.items ≤ limit) }
-    ensures counts { CountsLoads result (H.state host.old) (H.state host.new) }
+    ensures counts { CountsBuildLoads result (H.state host.old) (H.state host.new) }
     ensures rest { OnlyLoads (H.state host.old) (H.state host.new) }
 {
     match host.load(alloc, name, limit) {
@@ -80,12 +80,12 @@ impl Made {
         host: &mut H,
     ) -> Result<Still, BuildFault>
         requires { IsMade self.old }
-        ensures goes { (files : Files) → Tells files (picture_loaded_of files (made_view self.old) place name.now) (H.state host.old) →
+        ensures goes { (files : Files) → TellsFiles files (picture_loaded_of files (made_view self.old) place name.now) (H.state host.old) →
             Goes (λ picture. (made_view self.new, picture)) result (picture_loaded_of files (made_view self.old) place name.now) (H.state host.old) (H.state host.new) }
         ensures made { OnOk result (IsMade self.new) }
         ensures graph { OnOk result (self.new.graph ≡ self.old.graph) }
         ensures table { OnOk result (self.new.table ≡ self.old.table) }
-        ensures counts { CountsLoads result (H.state host.old) (H.state host.new) }
+        ensures counts { CountsBuildLoads result (H.state host.old) (H.state host.new) }
         ensures rest { OnlyLoads (H.state host.old) (H.state host.new) }
     {
         let bytes = load(alloc, place, name, load_limit(self.loaded), host)?;
@@ -105,13 +105,13 @@ impl Made {
         host: &mut H,
     ) -> Result<Product, BuildFault>
         requires { IsMade self.old }
-        ensures goes { (files : Files) → Tells files (picture_made_of files (measures_of profile.now) (made_view self.old) place name.now (wanted_view asked)) (H.state host.old) →
+        ensures goes { (files : Files) → TellsFiles files (picture_made_of files (measures_of profile.now) (made_view self.old) place name.now (wanted_view asked)) (H.state host.old) →
             Goes (product_view self.new) result (picture_made_of files (measures_of profile.now) (made_view self.old) place name.now (wanted_view asked)) (H.state host.old) (H.state host.new) }
         ensures made { OnOk result (IsMade self.new) }
         ensures more { OnOk result (IsMore self.old self.new) }
         ensures there { IfOk result (λ product. product.unit.0 < length self.new.graph) }
         ensures frames { IfOk result (λ product. (1 ≤ product.frames) × (product.frames < 2 ^ 31)) }
-        ensures counts { CountsLoads result (H.state host.old) (H.state host.new) }
+        ensures counts { CountsBuildLoads result (H.state host.old) (H.state host.new) }
         ensures rest { OnlyLoads (H.state host.old) (H.state host.new) }
     {
         let picture = self.picture_loaded(alloc, place, name, host)?;
@@ -127,12 +127,12 @@ impl Made {
         host: &mut H,
     ) -> Result<Option<SourceNo>, BuildFault>
         requires { IsMade self.old }
-        ensures goes { (files : Files) → Tells files (map_made_of files (made_view self.old) place (option_copied name.entry)) (H.state host.old) →
+        ensures goes { (files : Files) → TellsFiles files (map_made_of files (made_view self.old) place (option_copied name.entry)) (H.state host.old) →
             Goes (λ map. (made_view self.new, map)) result (map_made_of files (made_view self.old) place (option_copied name.entry)) (H.state host.old) (H.state host.new) }
         ensures made { OnOk result (IsMade self.new) }
         ensures more { OnOk result (IsMore self.old self.new) }
         ensures there { IfOk result (λ map. All (HasPicture self.new.table) (numbered map)) }
-        ensures counts { CountsLoads result (H.state host.old) (H.state host.new) }
+        ensures counts { CountsBuildLoads result (H.state host.old) (H.state host.new) }
         ensures rest { OnlyLoads (H.state host.old) (H.state host.new) }
     {
         match name {

@@ -10,14 +10,14 @@ ghost use Rattle.mlt_tree.specs.Ranges.{IsMerge};
 ghost use Rattle.mlt_tree.specs.Sources.{HasPicture, maps_of_merge};
 ghost use Rattle.mlt_tree.specs.declared.group.Group.{Group as GroupOf};
 ghost use Rattle.mlt_tree.specs.declared.services.MergeKind.TheVariants as merge;
-ghost use Rattle.melt_build.specs.Given.{props_in};
-ghost use Rattle.melt_build.specs.Loads.{Tells, Goes, CountsLoads};
+ghost use Rattle.melt_build.specs.Properties.{props_in};
+ghost use Rattle.melt_build.specs.Loads.{TellsFiles, Goes, CountsBuildLoads};
 ghost use Rattle.melt_build.specs.Plant.{merging_view};
 ghost use Rattle.melt_build.specs.Reads.{ReadGives};
 ghost use Rattle.melt_build.specs.State.{IsMade, IsMore, made_view};
 
 use crate::fault::{BuildFault, lifted};
-use crate::props::Given;
+use crate::props::Properties;
 use crate::state::Made;
 use mlt_base::{Profile, Q16, Try};
 use mlt_host::Host;
@@ -30,18 +30,18 @@ impl Made {
         &mut self,
         alloc: Global,
         place: u32,
-        given: &Given<'_, '_, '_>,
+        given: &Properties<'_, '_, '_>,
         host: &mut H,
     ) -> Result<MergeSpec, BuildFault>
         requires { IsMade self.old }
         ensures goes { (files : Files) (s : StateOf) (group : GroupOf) → s.made ≡ made_view self.old → group.place ≡ place →
-            Tells files (meaning.luma_made files s group (props_in given.now)) (H.state host.old) →
+            TellsFiles files (meaning.luma_made files s group (props_in given.now)) (H.state host.old) →
             Goes (merging_view self.new) result (meaning.luma_made files s group (props_in given.now)) (H.state host.old) (H.state host.new) }
         ensures made { OnOk result (IsMade self.new) }
         ensures more { OnOk result (IsMore self.old self.new) }
         ensures range { IfOk result IsMerge }
         ensures maps { IfOk result (λ spec. All (HasPicture self.new.table) (maps_of_merge spec)) }
-        ensures counts { CountsLoads result (H.state host.old) (H.state host.new) }
+        ensures counts { CountsBuildLoads result (H.state host.old) (H.state host.new) }
         ensures rest { OnlyLoads (H.state host.old) (H.state host.new) }
     {
         let softness = given.share(&row::SOFTNESS)?;
@@ -59,18 +59,18 @@ impl Made {
         profile: &Profile,
         kind: MergeKind,
         place: u32,
-        given: &Given<'_, '_, '_>,
+        given: &Properties<'_, '_, '_>,
         host: &mut H,
     ) -> Result<MergeSpec, BuildFault>
         requires { IsMade self.old }
         ensures goes { (files : Files) (s : StateOf) (group : GroupOf) → s.made ≡ made_view self.old → s.profile ≡ measures_of profile.now → group.place ≡ place →
-            Tells files (meaning.merge_made files s group kind (props_in given.now)) (H.state host.old) →
+            TellsFiles files (meaning.merge_made files s group kind (props_in given.now)) (H.state host.old) →
             Goes (merging_view self.new) result (meaning.merge_made files s group kind (props_in given.now)) (H.state host.old) (H.state host.new) }
         ensures made { OnOk result (IsMade self.new) }
         ensures more { OnOk result (IsMore self.old self.new) }
         ensures range { IfOk result IsMerge }
         ensures maps { IfOk result (λ spec. All (HasPicture self.new.table) (maps_of_merge spec)) }
-        ensures counts { CountsLoads result (H.state host.old) (H.state host.new) }
+        ensures counts { CountsBuildLoads result (H.state host.old) (H.state host.new) }
         ensures rest { OnlyLoads (H.state host.old) (H.state host.new) }
     {
         if kind == MergeKind::Luma {
@@ -87,7 +87,7 @@ fn merge_read(
     profile: &Profile,
     kind: MergeKind,
     place: u32,
-    given: &Given<'_, '_, '_>,
+    given: &Properties<'_, '_, '_>,
 ) -> Result<MergeSpec, Try<Refusal>>
     requires { kind ≢ merge.Luma }
     ensures value { (files : Files) (s : StateOf) (group : GroupOf) → s.profile ≡ measures_of profile.now → group.place ≡ place →

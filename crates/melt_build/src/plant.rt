@@ -13,15 +13,15 @@ ghost use Rattle.mlt_tree.specs.Refusing.{or_refuse};
 ghost use Rattle.mlt_tree.specs.Services.{called as called_of, merge_named as merge_named_of};
 ghost use Rattle.mlt_tree.specs.Sources.{HasPicture, maps_of_merge};
 ghost use Rattle.mlt_tree.specs.declared.refusal.Cause.TheVariants as cause;
-ghost use Rattle.melt_build.specs.Given.{props_in};
-ghost use Rattle.melt_build.specs.Loads.{Tells, Goes, CountsLoads};
+ghost use Rattle.melt_build.specs.Properties.{props_in};
+ghost use Rattle.melt_build.specs.Loads.{TellsFiles, Goes, CountsBuildLoads};
 ghost use Rattle.melt_build.specs.Plant.{crossing_view, merging_view, crossed_in_order, last_mix_merged};
 ghost use Rattle.melt_build.specs.State.{IsComposed, state_view};
 
 use crate::attach::{front_of, ordered};
 use crate::fault::BuildFault;
 use crate::object::Object;
-use crate::props::Given;
+use crate::props::Properties;
 use crate::service::{called, filter_named, merge_named};
 use crate::state::State;
 use crate::wanted::{Asked, Crossing};
@@ -41,7 +41,7 @@ fn merge_of(group: &Group) -> Result<MergeRow, Refusal>
     }
 }
 
-impl Given<'_, '_, '_> {
+impl Properties<'_, '_, '_> {
     /// The two tracks of a merge, and from where to where it goes.
     #[tactic(auto, unfolding(mlt_tree::specs::Planting::crossing))]
     fn crossing(&self, profile: &Profile, current: u32) -> Result<Crossing, Refusal>
@@ -90,7 +90,7 @@ impl State<'_> {
         let Some(service) = filter_named(word.id) else {
             return Err(Try::Fault(Refusal::at(group.place, Cause::UnknownService)));
         };
-        let given = Given {
+        let given = Properties {
             front: front_of(group.place, service.first, word.value),
             inherited: &self.inherited,
             own,
@@ -154,15 +154,15 @@ impl State<'_> {
     ) -> Result<(), BuildFault>
         requires composed { IsComposed self.old }
         requires own { own.now.words.now ≡ group.now.props }
-        ensures goes { (files : Files) → Tells files (merging.merge_planted files (state_view self.old) group.now service) (H.state host.old) →
+        ensures goes { (files : Files) → TellsFiles files (merging.merge_planted files (state_view self.old) group.now service) (H.state host.old) →
             Goes (λ _. state_view self.new) result (merging.merge_planted files (state_view self.old) group.now service) (H.state host.old) (H.state host.new) }
         ensures composed { OnOk result (IsComposed self.new) }
-        ensures counts { CountsLoads result (H.state host.old) (H.state host.new) }
+        ensures counts { CountsBuildLoads result (H.state host.old) (H.state host.new) }
         ensures rest { OnlyLoads (H.state host.old) (H.state host.new) }
     {
         let current = self.current();
         let word = called(group.arg.as_str());
-        let given = Given {
+        let given = Properties {
             front: front_of(group.place, service.first, word.value),
             inherited: &self.inherited,
             own,
@@ -189,10 +189,10 @@ impl State<'_> {
     ) -> Result<(), BuildFault>
         requires composed { IsComposed self.old }
         requires own { own.now.words.now ≡ group.now.props }
-        ensures goes { (files : Files) → Tells files (merging.transition files (state_view self.old) group.now) (H.state host.old) →
+        ensures goes { (files : Files) → TellsFiles files (merging.transition files (state_view self.old) group.now) (H.state host.old) →
             Goes (λ _. state_view self.new) result (merging.transition files (state_view self.old) group.now) (H.state host.old) (H.state host.new) }
         ensures composed { OnOk result (IsComposed self.new) }
-        ensures counts { CountsLoads result (H.state host.old) (H.state host.new) }
+        ensures counts { CountsBuildLoads result (H.state host.old) (H.state host.new) }
         ensures rest { OnlyLoads (H.state host.old) (H.state host.new) }
     {
         let service = merge_of(group)?;
@@ -207,10 +207,10 @@ impl State<'_> {
         host: &mut H,
     ) -> Result<(), BuildFault>
         requires { IsComposed self.old }
-        ensures goes { (files : Files) → Tells files (merging.transition files (state_view self.old) group.now) (H.state host.old) →
+        ensures goes { (files : Files) → TellsFiles files (merging.transition files (state_view self.old) group.now) (H.state host.old) →
             Goes (λ _. state_view self.new) result (merging.transition files (state_view self.old) group.now) (H.state host.old) (H.state host.new) }
         ensures composed { OnOk result (IsComposed self.new) }
-        ensures counts { CountsLoads result (H.state host.old) (H.state host.new) }
+        ensures counts { CountsBuildLoads result (H.state host.old) (H.state host.new) }
         ensures rest { OnlyLoads (H.state host.old) (H.state host.new) }
     {
         let own = Object::read(alloc, group.props.as_slice())?;
@@ -247,14 +247,14 @@ impl State<'_> {
     ) -> Result<(), BuildFault>
         requires composed { IsComposed self.old }
         requires own { own.now.words.now ≡ group.now.props }
-        ensures goes { (files : Files) → Tells files (merging.merge_mixed files (state_view self.old) group.now service) (H.state host.old) →
+        ensures goes { (files : Files) → TellsFiles files (merging.merge_mixed files (state_view self.old) group.now service) (H.state host.old) →
             Goes (λ _. state_view self.new) result (merging.merge_mixed files (state_view self.old) group.now service) (H.state host.old) (H.state host.new) }
         ensures composed { OnOk result (IsComposed self.new) }
-        ensures counts { CountsLoads result (H.state host.old) (H.state host.new) }
+        ensures counts { CountsBuildLoads result (H.state host.old) (H.state host.new) }
         ensures rest { OnlyLoads (H.state host.old) (H.state host.new) }
     {
         let word = called(group.arg.as_str());
-        let given = Given {
+        let given = Properties {
             front: front_of(group.place, service.first, word.value),
             inherited: &self.inherited,
             own,
@@ -280,10 +280,10 @@ impl State<'_> {
     ) -> Result<(), BuildFault>
         requires composed { IsComposed self.old }
         requires own { own.now.words.now ≡ group.now.props }
-        ensures goes { (files : Files) → Tells files (merging.mixer files (state_view self.old) group.now) (H.state host.old) →
+        ensures goes { (files : Files) → TellsFiles files (merging.mixer files (state_view self.old) group.now) (H.state host.old) →
             Goes (λ _. state_view self.new) result (merging.mixer files (state_view self.old) group.now) (H.state host.old) (H.state host.new) }
         ensures composed { OnOk result (IsComposed self.new) }
-        ensures counts { CountsLoads result (H.state host.old) (H.state host.new) }
+        ensures counts { CountsBuildLoads result (H.state host.old) (H.state host.new) }
         ensures rest { OnlyLoads (H.state host.old) (H.state host.new) }
     {
         let service = merge_of(group)?;
@@ -298,10 +298,10 @@ impl State<'_> {
         host: &mut H,
     ) -> Result<(), BuildFault>
         requires { IsComposed self.old }
-        ensures goes { (files : Files) → Tells files (merging.mixer files (state_view self.old) group.now) (H.state host.old) →
+        ensures goes { (files : Files) → TellsFiles files (merging.mixer files (state_view self.old) group.now) (H.state host.old) →
             Goes (λ _. state_view self.new) result (merging.mixer files (state_view self.old) group.now) (H.state host.old) (H.state host.new) }
         ensures composed { OnOk result (IsComposed self.new) }
-        ensures counts { CountsLoads result (H.state host.old) (H.state host.new) }
+        ensures counts { CountsBuildLoads result (H.state host.old) (H.state host.new) }
         ensures rest { OnlyLoads (H.state host.old) (H.state host.new) }
     {
         let own = Object::read(alloc, group.props.as_slice())?;

@@ -6,9 +6,9 @@ ghost use Rattle.mlt_base.specs.Name.{is_spelled};
 ghost use Rattle.mlt_base.specs.ProfileView.{measures_of};
 ghost use Rattle.mlt_base.specs.Try.{TryGives};
 ghost use Rattle.mlt_tree.specs.Props as meaning;
-ghost use Rattle.mlt_tree.specs.Props.{later as later_of, last_named, counted as counted_of, distant as distant_of, timed as timed_of, within as within_of, distance_within, chosen as chosen_of, keyed as keyed_of, channel_of, channels_of, lettered as lettered_of, shared as shared_of, placed as placed_of};
+ghost use Rattle.mlt_tree.specs.Props.{later as later_of, last_named, counted as counted_of, distant as distant_of, timed as timed_of, in_range as within_of, distance_within, chosen as chosen_of, keyed as keyed_of, channel_of, channels_of, lettered as lettered_of, shared as shared_of, placed as placed_of};
 ghost use Rattle.mlt_base.specs.GeometryView.{IsPlacement};
-ghost use Rattle.melt_build.specs.Given.{front_in, behind_front, props_in};
+ghost use Rattle.melt_build.specs.Properties.{front_in, behind_front, props_in};
 ghost use Rattle.melt_build.specs.Object.{text_in};
 ghost use Rattle.melt_build.specs.Reads.{at_place};
 
@@ -218,13 +218,13 @@ pub(crate) struct Front<'v> {
 /// The properties that an object is given: the one that its word holds, then those that it inherits, and then its
 /// own.
 #[derive(Clone, Copy)]
-pub(crate) struct Given<'v, 'b, 'a> {
+pub(crate) struct Properties<'v, 'b, 'a> {
     pub front: Option<Front<'v>>,
     pub inherited: &'b Object<'a>,
     pub own: &'b Object<'a>,
 }
 
-impl Given<'_, '_, '_> {
+impl Properties<'_, '_, '_> {
     /// The text of the property that the word holds, if it has this name.
     fn front_text(&self, name: &str) -> Option<&str>
         ensures { option_copied result ≡ text_in name.now (front_in self.now.front) }

@@ -10,7 +10,7 @@ ghost use Rattle.mlt_tree.specs.Sealing.{bytes_of, few_frames as few_frames_of, 
 ghost use Rattle.mlt_tree.specs.Sources.{Fits};
 ghost use Rattle.mlt_tree.specs.Tree.{len};
 ghost use Rattle.mlt_tree.specs.Unbuilt.{IsPlayed};
-ghost use Rattle.mlt_tree.specs.Units.{IsEntryBelow, drafts_of, tractor_of, level_misplaced};
+ghost use Rattle.mlt_tree.specs.Units.{IsEntryBelow, drafts_of, tractor_of};
 ghost use Rattle.mlt_graph.specs.Sealed.{tree};
 ghost use Rattle.mlt_graph.specs.Show.{output_view, meant};
 ghost use Rattle.melt_build.specs.Built.{checked, refusal_of};
@@ -22,10 +22,13 @@ use crate::state::{Made, State};
 use crate::wanted::Cut;
 use mlt_base::limits::{MOST_BYTES, MOST_WRITTEN};
 use mlt_base::{Pos, Profile, Text, Try};
-use mlt_graph::{Format, Graph, GraphFault, Level, Output, Pix, Sealed, Show, unit_of};
+use mlt_graph::{Format, Graph, GraphFault, Level, Output, Pix, Sealed, Show, pairs_of, unit_of};
 use mlt_source::SourceTable;
 use mlt_tree::{Cause, Refusal, services as row};
 use std::alloc::{AllocError, Global};
+
+/// The channels of a consumer's sound.
+const CHANNELS: u32 = 2;
 
 /// The bytes that a run holds at most, where one evaluation holds so many buffers.
 fn bytes_of(profile: &Profile, c: &Consumer<'_>, need: u32) -> u64
@@ -33,7 +36,7 @@ fn bytes_of(profile: &Profile, c: &Consumer<'_>, need: u32) -> u64
     ensures { result ≡ bytes_of (measures_of profile.now) (consumer_view c.now) need }
 {
     let hands = u64::from(c.workers) + 1;
-    u64::from(unit_of(profile))
+    u64::from(unit_of(profile, pairs_of(CHANNELS)))
         * (u64::from(c.buffer) + hands * u64::from(need) + u64::from(c.cache))
 }
 
@@ -117,7 +120,7 @@ fn settings_of(alloc: Global, c: &Consumer<'_>, range: Cut) -> Result<Output, Al
         buffer: c.buffer,
         slices: c.slices,
         cache: c.cache,
-        channels: 2,
+        channels: CHANNELS,
         format: Format::S16,
     })
 }
@@ -160,8 +163,9 @@ fn sealed(
     mut graph: Graph,
     level: Level,
 ) -> Result<Sealed, Try<Refusal>>
-    requires { All (λ draft. All (IsEntryBelow (length graph)) draft.entries) (drafts_of level) }
-    ensures value { TryGives (λ _. tt) result (checked count places.now (length (drafts_of level)) (level_misplaced level) (graph ++ tractor_of level ∷ []) (length graph)) }
+    requires below { All (λ draft. All (IsEntryBelow (length graph)) draft.entries) (drafts_of level) }
+    requires placed { length places.now ≡ length level.plants }
+    ensures value { TryGives (λ _. tt) result (checked count places.now level (graph ++ tractor_of level ∷ []) (length graph)) }
     ensures sealed { IfOk result (λ sealed. sealed ≡ record { units = graph ++ tractor_of level ∷ []; top = length graph }) }
 {
     let top = match graph.add_tractor(level) {

@@ -7,11 +7,11 @@ ghost use Rattle.mlt_tree.specs.Composing.{show_of};
 ghost use Rattle.mlt_tree.specs.GroupWords.{IsAllowed, words_in};
 ghost use Rattle.mlt_tree.specs.Loading.{Files};
 ghost use Rattle.mlt_tree.specs.Sources.{Fits};
-ghost use Rattle.mlt_tree.specs.Table.{is_kind, row_of};
+ghost use Rattle.mlt_tree.specs.Table.{is_kind, option_row};
 ghost use Rattle.mlt_tree.specs.Unbuilt.{IsPlayed};
 ghost use Rattle.mlt_graph.specs.Sealed.{tree};
 ghost use Rattle.mlt_graph.specs.Show.{meant};
-ghost use Rattle.melt_build.specs.Loads.{Tells, Goes, CountsLoads};
+ghost use Rattle.melt_build.specs.Loads.{TellsFiles, Goes, CountsBuildLoads};
 ghost use Rattle.melt_build.specs.WordCount.{behind_group, has_argument as has_argument_of};
 
 use crate::composition::composed;
@@ -46,9 +46,9 @@ fn row_of_kind(rows: &[Row], kind: GroupKind) -> Option<&Row>
 }
 
 /// Whether a word of its own stands behind the first word of a group of this kind.
-#[tactic(auto, unfolding(mlt_tree::specs::Table::row_of))]
+#[tactic(auto, unfolding(mlt_tree::specs::Table::option_row))]
 fn has_argument(kind: GroupKind) -> bool
-    ensures { result ≡ has_argument_of (row_of kind) }
+    ensures { result ≡ has_argument_of (option_row kind) }
 {
     match row_of_kind(&OPTIONS, kind) {
         Some(row) => row.argument,
@@ -99,11 +99,11 @@ fn show_of<H: Host>(
     groups: &[Group],
     host: &mut H,
 ) -> Result<(Show, SourceTable), BuildFault>
-    ensures goes { (files : Files) → Tells files (show_of files count groups.now) (H.state host.old) →
+    ensures goes { (files : Files) → TellsFiles files (show_of files count groups.now) (H.state host.old) →
         Goes (λ made. meant made.0 made.1) result (show_of files count groups.now) (H.state host.old) (H.state host.new) }
     ensures fits { IfOk result (λ made. Fits made.1 (tree made.0.sealed)) }
     ensures played { IfOk result (λ made. IsPlayed (meant made.0 made.1)) }
-    ensures counts { CountsLoads result (H.state host.old) (H.state host.new) }
+    ensures counts { CountsBuildLoads result (H.state host.old) (H.state host.new) }
     ensures rest { OnlyLoads (H.state host.old) (H.state host.new) }
 {
     let state = composed(alloc, count, groups, host)?;
@@ -124,11 +124,11 @@ pub fn build<H: Host>(
     host: &mut H,
 ) -> Result<(Show, SourceTable), BuildFault>
     requires { All IsAllowed groups.now }
-    ensures goes { (files : Files) → Tells files (show_of files (words_in groups.now) groups.now) (H.state host.old) →
+    ensures goes { (files : Files) → TellsFiles files (show_of files (words_in groups.now) groups.now) (H.state host.old) →
         Goes (λ made. meant made.0 made.1) result (show_of files (words_in groups.now) groups.now) (H.state host.old) (H.state host.new) }
     ensures fits { IfOk result (λ made. Fits made.1 (tree made.0.sealed)) }
     ensures played { IfOk result (λ made. IsPlayed (meant made.0 made.1)) }
-    ensures counts { CountsLoads result (H.state host.old) (H.state host.new) }
+    ensures counts { CountsBuildLoads result (H.state host.old) (H.state host.new) }
     ensures rest { OnlyLoads (H.state host.old) (H.state host.new) }
 {
     let list = groups.as_slice();

@@ -4,12 +4,12 @@ ghost use Rattle.std.specs.Prelude.{◌≡◌};
 ghost use Rattle.mlt_graph.specs.Show.{pix_of};
 ghost use Rattle.mlt_base.specs.Try.{Gives};
 ghost use Rattle.mlt_tree.specs.Composition.{pix_of as pix_of_choice, raw_output as raw_output_of, consumer as consumer_of};
-ghost use Rattle.melt_build.specs.Given.{props_in};
+ghost use Rattle.melt_build.specs.Properties.{props_in};
 ghost use Rattle.melt_build.specs.State.{IsComposed, state_view};
 
 use crate::consumer::Consumer;
 use crate::object::Object;
-use crate::props::Given;
+use crate::props::Properties;
 use crate::service::raw_of;
 use mlt_base::{Profile, UnitId};
 use mlt_graph::{Graph, Level, Pix};
@@ -70,7 +70,7 @@ impl<'a> State<'a> {
     fn raw_output(
         &mut self,
         group: &Group,
-        given: Given<'_, '_, '_>,
+        given: Properties<'_, '_, '_>,
         video: &'a str,
     ) -> Result<(), Refusal>
         requires composed { IsComposed self.old }
@@ -104,7 +104,7 @@ impl<'a> State<'a> {
     pub(crate) fn consumer(
         &mut self,
         group: &'a Group,
-        given: Given<'_, '_, '_>,
+        given: Properties<'_, '_, '_>,
     ) -> Result<(), Refusal>
         requires composed { IsComposed self.old }
         requires own { props_in given ≡ group.now.props }

@@ -10,7 +10,7 @@ use mlt_graph::{Format, Pix};
 use mlt_host::CalmHost;
 use mlt_image::Colour;
 use mlt_source::Source;
-use mlt_tree::{Cause, GroupList};
+use mlt_tree::{Cause, GroupKind, GroupList};
 use std::alloc::Global;
 use std::test::Fail;
 
@@ -85,6 +85,56 @@ fn counts_the_words_of_its_groups(rt: HostRuntime) -> Result<(), Fail> {
                 };
                 assert_eq!(rt; fault, BuildFault::Refused(refusal), "{line}");
             }
+        }
+    }
+    Ok(())
+}
+
+#[test]
+fn finds_the_first_two_groups_of_a_kind(rt: HostRuntime) -> Result<(), Fail> {
+    let alloc = rt.alloc();
+    let line = "-quiet -blank 0 colour:red -blank 1 -blank 2";
+    let list = read(alloc, line)?;
+    let (first, second) = first_two(list.as_slice(), GroupKind::Blank);
+    assert_eq!(rt; first.map(|group| group.place), Some(1));
+    assert_eq!(rt; second.map(|group| group.place), Some(4));
+    let (first, second) = first_two(list.as_slice(), GroupKind::Quiet);
+    assert_eq!(rt; first.map(|group| group.place), Some(0));
+    assert!(rt; second.is_none());
+    let (first, second) = first_two(list.as_slice(), GroupKind::Profile);
+    assert!(rt; first.is_none());
+    assert!(rt; second.is_none());
+    Ok(())
+}
+
+#[test]
+fn refuses_a_second_profile(rt: HostRuntime) -> Result<(), Fail> {
+    let alloc = rt.alloc();
+    // The words, and which one is refused, and why: a first profile that is none comes before a second.
+    let rows: [(&str, u32, Cause); 3] = [
+        (
+            "-profile 1x1@25/1 colour:red -profile 2x2@25/1",
+            3,
+            Cause::TooMany { limit: 1 },
+        ),
+        (
+            "-profile 1x1@25/1 colour:red -profile none",
+            3,
+            Cause::TooMany { limit: 1 },
+        ),
+        ("-profile none -profile 1x1@25/1", 0, Cause::BadValue),
+    ];
+    for (line, word, cause) in rows {
+        let list = read(alloc, line)?;
+        let mut host = CalmHost::new(alloc);
+        let wanted = BuildFault::Refused(mlt_tree::Refusal {
+            word,
+            inner: None,
+            cause,
+        });
+        match build(alloc, &list, &mut host) {
+            Ok(_) => return Err(Fail::new("built")),
+            Err(fault) => assert_eq!(rt; fault, wanted, "{line}"),
         }
     }
     Ok(())

@@ -1,10 +1,10 @@
 //! What options do to the entries of the track, and tracks that begin.
 
-ghost use Rattle.std.specs.Prelude.{◌≡◌, ◌≤◌, IfSome, OnOk};
+ghost use Rattle.std.specs.Prelude.{◌≡◌, ◌≤◌, ◌-◌, length, IfSome, OnOk};
 ghost use Rattle.std.specs.Option.{option_map};
 ghost use Rattle.mlt_base.specs.Try.{TryGives};
-ghost use Rattle.mlt_tree.specs.Composition.{blank as blank_of, remove as remove_of, repeat as repeat_of, split as split_of, split_at_frame as split_at_frame_of, swap as swap_of, join as join_of, joined as joined_of};
-ghost use Rattle.mlt_tree.specs.Planting.{mix_kept as mix_kept_of, begin_track as begin_track_of, mixed as mixed_of, mix as mix_of};
+ghost use Rattle.mlt_tree.specs.Composition.{blank as blank_of, remove as remove_of, repeat as repeat_of, split as split_of, split_at_frame as split_at_frame_of, swap as swap_of, join as join_of, joined_at as joined_at_of};
+ghost use Rattle.mlt_tree.specs.Planting.{mix_kept as mix_kept_of, begin_track as begin_track_of, mixed_at as mixed_at_of, mix as mix_of};
 ghost use Rattle.mlt_tree.specs.Refusing.{refusal_at as refusal_of};
 ghost use Rattle.mlt_tree.specs.Units.{IsMix};
 ghost use Rattle.mlt_tree.specs.declared.refusal.Cause.{Cause};
@@ -101,7 +101,7 @@ impl State<'_> {
     fn joined(&mut self, group: &Group, n: u32) -> Result<(), Try<Refusal>>
         requires composed { IsComposed self.old }
         requires some { 1 ≤ n }
-        ensures value { TryGives (λ _. state_view self.new) result (joined_of (state_view self.old) group.now n) }
+        ensures value { TryGives (λ _. state_view self.new) result (joined_at_of (state_view self.old) group.now (length self.old.level.current.entries - n) n) }
         ensures composed { OnOk result (IsComposed self.new) }
     {
         let n = n as usize;
@@ -128,7 +128,7 @@ impl State<'_> {
     fn mixed(&mut self, group: &Group, n: u32) -> Result<(), Try<Refusal>>
         requires composed { IsComposed self.old }
         requires some { 1 ≤ n }
-        ensures value { TryGives (λ _. state_view self.new) result (mixed_of (state_view self.old) group.now n) }
+        ensures value { TryGives (λ _. state_view self.new) result (mixed_at_of (state_view self.old) group.now (length self.old.level.current.entries - 2) n) }
         ensures composed { OnOk result (IsComposed self.new) }
     {
         let unit = self.made.graph.next_id();

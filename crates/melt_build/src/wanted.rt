@@ -20,6 +20,8 @@ pub(crate) enum Origin<'a> {
     Colour(Colour),
     /// The name of a picture's file.
     Picture(&'a str),
+    /// The name of a file of words.
+    Words(&'a str),
 }
 
 /// The frames that a producer's properties ask for, and how long its source is to be.

@@ -14,7 +14,7 @@ use Rattle.mlt_graph.specs.Show.{meant}
 use Rattle.mlt_graph.specs.declared.show.Show.{Show}
 use Rattle.melt_build.specs.declared.fault.BuildFault.{BuildFault}
 use Rattle.melt_build.specs.declared.fault.BuildFault.TheVariants as build
-use Rattle.melt_build.specs.Loads.{Asks, StopsAt, AsksSome, Tells, Fails, names_of}
+use Rattle.melt_build.specs.Loads.{Asks, AsksUpTo, AsksSome, TellsFiles, StepFails, names_of}
 use Rattle.melt_run.specs.declared.prepared.Prepared.{Prepared}
 use Rattle.melt_run.specs.declared.prepared.Prepared.TheVariants.{Play, Text, Refused, SourceFault, Memory}
 use Rattle.melt_run.specs.declared.status.Status.{Status}
@@ -70,7 +70,7 @@ module _ (step : Read shown.Show) where
   show_loads : (show_read step).loads ≡ step.loads
   show_loads = bound_loads step then_play (λ show. refl)
 
-  pub tells_show : (files : Files) (host : HostState) → Tells files (show_read step) host → Tells files step host
+  pub tells_show : (files : Files) (host : HostState) → TellsFiles files (show_read step) host → TellsFiles files step host
   tells_show files host (inl told) = inl told
   tells_show files host (inr none) = inr (sym show_loads ∙ none)
 
@@ -87,18 +87,18 @@ module _ (step : Read shown.Show) where
       asked = subst (λ ls. Asks (names_of ls) a b) (sym show_loads) asked;
     }
 
-    pub fault_goes : (place : ℕ) → StopsAt place step.loads a b → GoesPrepared (SourceFault place) (show_read step) a b
-    fault_goes place stops = record { means = tt; asked = subst (λ ls. StopsAt place ls a b) (sym show_loads) stops }
+    pub fault_goes : (place : ℕ) → AsksUpTo place step.loads a b → GoesPrepared (SourceFault place) (show_read step) a b
+    fault_goes place stops = record { means = tt; asked = subst (λ ls. AsksUpTo place ls a b) (sym show_loads) stops }
 
-    pub memory_goes : (fault : BuildFault) → fault ≡ build.Memory → Fails fault step a b → GoesPrepared Memory (show_read step) a b
+    pub memory_goes : (fault : BuildFault) → fault ≡ build.Memory → StepFails fault step a b → GoesPrepared Memory (show_read step) a b
     memory_goes fault is fails = record {
       means = tt;
-      asked = subst (λ ls. AsksSome ls a b) (sym show_loads) (subst (λ f. Fails f step a b) is fails);
+      asked = subst (λ ls. AsksSome ls a b) (sym show_loads) (subst (λ f. StepFails f step a b) is fails);
     }
 
 -- ---- the words, on a host that tells the files that they name
 
-module _ (prepared : Prepared) (words : List (List ℕ)) (a b : HostState) (goes : (files : Files) → Tells files (words_read words files) a → GoesPrepared prepared (words_read words files) a b) where
+module _ (prepared : Prepared) (words : List (List ℕ)) (a b : HostState) (goes : (files : Files) → TellsFiles files (words_read words files) a → GoesPrepared prepared (words_read words files) a b) where
   pub means_on : IfSome (reading_on words a.files) (Means prepared)
   means_on = by a.files refl where
     without : List Load → Option Reading
@@ -144,7 +144,7 @@ module _ (a b c : HostState) (same : c.asked ≡ b.asked) where
       (length (names_of loads), subst (λ names. Asks names a c) (sym (take-length (names_of loads))) (asks_on (names_of loads) h))
 
   -- those up to the one that can't be read
-  pub front_asked : (s : Status) (place : ℕ) (loads : List Load) → s ≡ status.SourceFault place → StopsAt place loads a b → AsksFor s loads a c
+  pub front_asked : (s : Status) (place : ℕ) (loads : List Load) → s ≡ status.SourceFault place → AsksUpTo place loads a b → AsksFor s loads a c
   front_asked s place loads is h =
       subst (λ s. AsksFor s loads a c) (sym is) (record { before = h.before; name = h.name; rest = h.rest; order = h.order; asked = asks_on (names_of h.before ++ h.name ∷ []) h.asked })
 

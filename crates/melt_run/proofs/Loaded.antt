@@ -3,7 +3,7 @@ use Rattle.std.proofs.Common.{List, ℕ, ◌≡◌, Option, Ok, Err, [], ◌∷�
 use Rattle.mlt_host.specs.Host.{HostState, Rose}
 use Rattle.mlt_tree.specs.Lines.{refusal_line, source_line, sink_line, memory_line}
 use Rattle.mlt_tree.specs.Reading.{Reading, Play, Print, TextJob}
-use Rattle.mlt_tree.specs.Show.{Show}
+use Rattle.mlt_tree.specs.Show.{Run, played}
 use Rattle.melt_run.specs.declared.status.Status.{Status}
 use Rattle.melt_run.specs.declared.status.Status.TheVariants.{Done, Refused, SourceFault, SinkFault, Memory}
 use Rattle.melt_run.specs.Ends.{Ends, PlaysOrTells, PrintsOrTells}
@@ -18,12 +18,12 @@ module _ (a : HostState) (names : Option (List (List ℕ))) (faults : ℕ) (z : 
   tells_from [] h = h
   tells_from (c ∷ line) h = h
 
-  plays_from : (show : Show) (status : Status) → PlaysOrTells show status loaded z → PlaysOrTells show status a z
-  plays_from show (Done tally) h = h
-  plays_from show (Refused refusal) h = h
-  plays_from show (SourceFault place) h = h
-  plays_from show (SinkFault failed tally) h = h
-  plays_from show Memory h = h
+  plays_from : (run : Run) (status : Status) → PlaysOrTells run status loaded z → PlaysOrTells run status a z
+  plays_from run (Done tally) h = h
+  plays_from run (Refused refusal) h = h
+  plays_from run (SourceFault place) h = h
+  plays_from run (SinkFault failed tally) h = h
+  plays_from run Memory h = h
 
   prints_from : (job : TextJob) (status : Status) → PrintsOrTells job status loaded z → PrintsOrTells job status a z
   prints_from job (Done tally) h = h
@@ -41,7 +41,7 @@ module _ (a : HostState) (names : Option (List (List ℕ))) (faults : ℕ) (z : 
 
   pub ends_from : (reading : Reading) (status : Status) → Ends reading status loaded z → Ends reading status a z
   ends_from (Ok (Play show)) status h =
-      record { plays = plays_from show status h.plays; rose = rose_from status h.rose; others = h.others; creates = h.creates; line = tells_from (line_of status) h.line }
+      record { plays = plays_from (played show) status h.plays; rose = rose_from status h.rose; others = h.others; creates = h.creates; line = tells_from (line_of status) h.line }
   ends_from (Ok (Print job)) status h =
       record { prints = prints_from job status h.prints; rest = let rest = h.rest in record { others = rest.others; creates = rest.creates } }
   ends_from (Err stop) status h =
@@ -51,7 +51,7 @@ module _ (a : HostState) (names : Option (List (List ℕ))) (faults : ℕ) (z : 
   ports_from (Done tally) h = h
   ports_from (Refused refusal) h = record { others = h.others; told = tells_from (refusal_line refusal) h.told }
   ports_from (SourceFault place) h = record { others = h.others; told = tells_from (source_line place) h.told }
-  ports_from (SinkFault port tally) h = record { rose = h.rose; others = h.others; told = λ other. tells_from (sink_line port) (h.told other) }
+  ports_from (SinkFault port tally) h = record { rose = h.rose; others = h.others; created = h.created; told = λ has. tells_from (sink_line port) (h.told has) }
   ports_from Memory h = record { others = h.others; told = tells_from memory_line h.told }
 
 -- no load has failed before

@@ -8,11 +8,11 @@ use Rattle.mlt_tree.specs.declared.refusal.Refusal.{Refusal}
 use Rattle.mlt_tree.specs.Loading as read
 use Rattle.mlt_tree.specs.Loading.{Stop}
 use Rattle.mlt_tree.specs.Reading.{Reading, Play, Print, TextJob, Written, written, written_of}
-use Rattle.mlt_tree.specs.Show.{Show, written_name, written_frames, piece, prefix}
+use Rattle.mlt_tree.specs.Show.{Show, played, written_name, written_frames, piece, prefix}
 use Rattle.melt_run.specs.declared.status.Status.{Status}
 use Rattle.melt_run.specs.declared.status.Status.TheVariants.{Done, Refused, SourceFault, SinkFault, Memory}
 use Rattle.melt_run.specs.declared.status.Tally.{Tally}
-use Rattle.melt_run.specs.Ends.{Ends, EndsShow, IsStop, PlaysOrTells, PrintsOrTells}
+use Rattle.melt_run.specs.Ends.{Ends, EndsRun, IsStop, PlaysOrTells, PrintsOrTells}
 use Rattle.melt_run.specs.Outcome.{HasFrontOf, Leaves, IsWritten, IsCreatedOnce, IsWholeTally, FailsAt, MeetsNoFault, IsDoneOrMemory, IsAccepted, Says, CountsLoads}
 use Rattle.melt_run.specs.Play.{fronted, comes_before, whole_at, IsCutAt, IsUncreated, IsStopped, Stops, CreatesOnce}
 use Rattle.melt_run.specs.Status.{IfDone, IfRefused, IfSinkFault}
@@ -26,7 +26,7 @@ if_some (Some x) f h = f x h
 module _ (show : Show) (port : Port) (old new : Option PortState) where
   -- it has them where it is an output, else it is as before
   whole : (o : Option (List ℕ)) → written_name show port ≡ o → (written_name show port ≡ None → new ≡ old)
-      → IfSome o (λ name. IfSome new (λ now. now ≡ fronted show port name (written_frames show))) → IsWritten (written_of show port o) old new
+      → IfSome o (λ name. IfSome new (λ now. now ≡ fronted (played show) port name (written_frames show))) → IsWritten (written_of show port o) old new
   whole None is other h = other is
   whole (Some name) is other h = h
 
@@ -130,12 +130,12 @@ module _ (show : Show) (port : Port) (name : List ℕ) where
   abbrev wanted_of : Written
   wanted_of = record { name = name; bytes = prefix show port (written_frames show) }
 
-  fronted_front : (now : PortState) (count : ℕ) → count ≤ written_frames show → now ≡ fronted show port name count → HasFrontOf wanted_of now
+  fronted_front : (now : PortState) (count : ℕ) → count ≤ written_frames show → now ≡ fronted (played show) port name count → HasFrontOf wanted_of now
   fronted_front now count h is =
       subst (HasFrontOf wanted_of) (sym is) (record { name = refl; front = prefix_front show port count (written_frames show) h })
 
   -- the cut output has a part of the next position, and the others have whole ones
-  cut_front : (failed : Port) (count : ℕ) (now : PortState) → count < written_frames show → (b : Bool) → comes_before port failed ≡ b → (b ≡ true → port ≢ failed) → IsCutAt show failed port name count now → HasFrontOf wanted_of now
+  cut_front : (failed : Port) (count : ℕ) (now : PortState) → count < written_frames show → (b : Bool) → comes_before port failed ≡ b → (b ≡ true → port ≢ failed) → IsCutAt (played show) failed port name count now → HasFrontOf wanted_of now
   cut_front failed count now short true before apart cut =
       let whole : whole_at failed port count ≡ count + 1 = ap (λ b. cond b (count + 1) count) before in
       let bytes : now.bytes ≡ prefix show port (count + 1) =
@@ -161,7 +161,7 @@ apart_of Text failed b is first = cc
 
 module _ (show : Show) (port : Port) (old new : Option PortState) where
   leaves_whole : (o : Option (List ℕ)) → written_name show port ≡ o → (written_name show port ≡ None → new ≡ old)
-      → IfSome o (λ name. IfSome new (λ now. now ≡ fronted show port name (written_frames show))) → Leaves (written_of show port o) old new
+      → IfSome o (λ name. IfSome new (λ now. now ≡ fronted (played show) port name (written_frames show))) → Leaves (written_of show port o) old new
   leaves_whole None is other h = other is
   leaves_whole (Some name) is other h = inr (if_some new (λ now eq. fronted_front show port name now (written_frames show) (omega arith) eq) h)
 
@@ -170,26 +170,26 @@ module _ (show : Show) (port : Port) (old new : Option PortState) where
   leaves_same (Some name) is other h = inl h
 
   leaves_uncreated : (failed : Port) (o : Option (List ℕ)) → written_name show port ≡ o → (written_name show port ≡ None → new ≡ old)
-      → IfSome o (λ name. IsUncreated (comes_before port failed) show port name old new) → Leaves (written_of show port o) old new
+      → IfSome o (λ name. IsUncreated (comes_before port failed) (played show) port name old new) → Leaves (written_of show port o) old new
   leaves_uncreated failed None is other h = other is
   leaves_uncreated failed (Some name) is other h = by (comes_before port failed) h where
-    by : (b : Bool) → IsUncreated b show port name old new → Leaves (written_of show port (Some name)) old new
+    by : (b : Bool) → IsUncreated b (played show) port name old new → Leaves (written_of show port (Some name)) old new
     by true h = inr (if_some new (λ now eq. fronted_front show port name now 0 (omega arith) eq) h)
     by false h = inl h
 
-  leaves_cut : (failed : Port) (tally : Tally) → IsStopped show tally → (o : Option (List ℕ)) → written_name show port ≡ o → (written_name show port ≡ None → new ≡ old)
-      → IfSome o (λ name. IfSome new (IsCutAt show failed port name tally.frames)) → Leaves (written_of show port o) old new
+  leaves_cut : (failed : Port) (tally : Tally) → IsStopped (played show) tally → (o : Option (List ℕ)) → written_name show port ≡ o → (written_name show port ≡ None → new ≡ old)
+      → IfSome o (λ name. IfSome new (IsCutAt (played show) failed port name tally.frames)) → Leaves (written_of show port o) old new
   leaves_cut failed tally counts None is other h = other is
   leaves_cut failed tally counts (Some name) is other h =
       inr (if_some new (λ now cut. cut_front show port name failed tally.frames now counts.short (comes_before port failed) refl (apart_of port failed (comes_before port failed) refl) cut) h)
 
-show_front : (show : Show) (status : Status) (a c : HostState) → EndsShow show status a c → (port : Port) → port ≢ Text → Leaves (written (Ok (Play show)) port) (a.port port) (c.port port)
+show_front : (show : Show) (status : Status) (a c : HostState) → EndsRun (played show) status a c → (port : Port) → port ≢ Text → Leaves (written (Ok (Play show)) port) (a.port port) (c.port port)
 show_front show status a c ends port apart = by status ends.plays where
-  stops : (failed : Port) (tally : Tally) → Stops show failed tally a c → Leaves (written (Ok (Play show)) port) (a.port port) (c.port port)
+  stops : (failed : Port) (tally : Tally) → Stops (played show) failed tally a c → Leaves (written (Ok (Play show)) port) (a.port port) (c.port port)
   stops failed tally (inl h) = leaves_uncreated show port (a.port port) (c.port port) failed (written_name show port) refl (ends.others port apart) (h.1 port)
   stops failed tally (inr h) = leaves_cut show port (a.port port) (c.port port) failed tally h.counts (written_name show port) refl (ends.others port apart) (h.cut port)
 
-  by : (status : Status) → PlaysOrTells show status a c → Leaves (written (Ok (Play show)) port) (a.port port) (c.port port)
+  by : (status : Status) → PlaysOrTells (played show) status a c → Leaves (written (Ok (Play show)) port) (a.port port) (c.port port)
   by (Done tally) plays = leaves_whole show port (a.port port) (c.port port) (written_name show port) refl (ends.others port apart) (plays.1 port)
   by (Refused refusal) plays = absurd plays
   by (SourceFault place) plays = leaves_same show port (a.port port) (c.port port) (written_name show port) refl (ends.others port apart) (plays port)
@@ -204,11 +204,11 @@ front_is (Err stop) status a c ends port apart = ends.rest.others port apart
 
 -- ---- creates
 
-named_of : (show : Show) (port : Port) (o : Option (List ℕ)) (status : Status) (old new : ℕ) → CreatesOnce o status old new → IsCreatedOnce (written_of show port o) status old new
+named_of : (show : Show) (port : Port) (o : Option (List ℕ)) (status : Status) (old new : ℕ) → CreatesOnce port o status old new → IsCreatedOnce port (written_of show port o) status old new
 named_of show port None status old new h = h
 named_of show port (Some name) status old new h = h
 
-pub created_is : (reading : Reading) (status : Status) (a c : HostState) → Ends reading status a c → (port : Port) → IsCreatedOnce (written reading port) status (a.creates port) (c.creates port)
+pub created_is : (reading : Reading) (status : Status) (a c : HostState) → Ends reading status a c → (port : Port) → IsCreatedOnce port (written reading port) status (a.creates port) (c.creates port)
 created_is (Ok (Play show)) status a c ends port = named_of show port (written_name show port) status (a.creates port) (c.creates port) (ends.creates port)
 created_is (Ok (Print job)) status a c ends port = ends.rest.creates port
 created_is (Err stop) status a c ends port = ends.rest.creates port

@@ -7,7 +7,7 @@ use Rattle.mlt_tree.specs.Lines.{source_line, memory_line}
 use Rattle.mlt_tree.specs.Loading as read
 use Rattle.mlt_tree.specs.Loading.{Stop}
 use Rattle.mlt_tree.specs.Reading.{Reading, Play, Print, TextJob, job_text}
-use Rattle.mlt_tree.specs.Show.{Show, written_name}
+use Rattle.mlt_tree.specs.Show.{Run, played}
 use Rattle.melt_run.specs.declared.status.Status.{Status}
 use Rattle.melt_run.specs.declared.status.Status.TheVariants.{Done, Refused, SourceFault, SinkFault, Memory}
 use Rattle.melt_run.specs.Outcome.{Tells}
@@ -16,19 +16,19 @@ use Rattle.melt_run.specs.Prints.{Prints}
 use Rattle.melt_run.specs.Status.{line_of, IfSinkFault}
 
 -- what the outputs have got; each is as before where a file can't be read
-abbrev pub PlaysOrTells : Show → Status → HostState → HostState → Type 0
-PlaysOrTells show (Done tally) old new = Plays show (Done tally) old new
-PlaysOrTells show (Refused refusal) old new = ⊥
-PlaysOrTells show (SourceFault place) old new = EachOutput show (λ port name. new.port port ≡ old.port port)
-PlaysOrTells show (SinkFault port tally) old new = Plays show (SinkFault port tally) old new
-PlaysOrTells show Memory old new = Plays show Memory old new
+abbrev pub PlaysOrTells : Run → Status → HostState → HostState → Type 0
+PlaysOrTells run (Done tally) old new = Plays run (Done tally) old new
+PlaysOrTells run (Refused refusal) old new = ⊥
+PlaysOrTells run (SourceFault place) old new = EachOutput run (λ port name. new.port port ≡ old.port port)
+PlaysOrTells run (SinkFault port tally) old new = Plays run (SinkFault port tally) old new
+PlaysOrTells run Memory old new = Plays run Memory old new
 
--- a show was played, and a line told where it was not played whole
-pub record EndsShow (show : Show) (status : Status) (old new : HostState) : Type 0 where
-  pub plays : PlaysOrTells show status old new
+-- a run was played, and a line told where it was not played whole
+pub record EndsRun (run : Run) (status : Status) (old new : HostState) : Type 0 where
+  pub plays : PlaysOrTells run status old new
   pub rose : IfSinkFault status (λ port tally. Rose (old.faults port) (new.faults port))
-  pub others : (port : Port) → port ≢ Text → written_name show port ≡ None → new.port port ≡ old.port port
-  pub creates : (port : Port) → CreatesOnce (written_name show port) status (old.creates port) (new.creates port)
+  pub others : (port : Port) → port ≢ Text → run.name port ≡ None → new.port port ≡ old.port port
+  pub creates : (port : Port) → CreatesOnce port (run.name port) status (old.creates port) (new.creates port)
   pub line : Tells (line_of status) old new
 
 -- no port but the text has changed
@@ -63,6 +63,6 @@ pub record EndsStopped (stop : Stop) (status : Status) (old new : HostState) : T
   pub rest : OnlyTells old new
 
 abbrev pub Ends : Reading → Status → HostState → HostState → Type 0
-Ends (Ok (Play show)) status old new = EndsShow show status old new
+Ends (Ok (Play show)) status old new = EndsRun (played show) status old new
 Ends (Ok (Print job)) status old new = EndsPrint job status old new
 Ends (Err stop) status old new = EndsStopped stop status old new

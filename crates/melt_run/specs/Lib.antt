@@ -1,7 +1,7 @@
 pub mod Ends
 pub mod Lending
 pub mod Outcome
-pub mod Pieces
+pub mod LineParts
 pub mod Play
 pub mod Prepared
 pub mod Prints

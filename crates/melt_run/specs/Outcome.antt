@@ -1,19 +1,19 @@
 -- What the top call leaves on a host, by its answer and by what the words mean.
-use Rattle.std.specs.Prelude.{◌≡◌, ◌≢◌, ◌⊎◌, ◌≤◌, ◌++◌, ℕ, List, [], ◌∷◌, length, Option, None, Some, Ok, Err, IfSome}
+use Rattle.std.specs.Prelude.{◌≡◌, ◌≢◌, ◌⊎◌, ◌≤◌, ◌++◌, ℕ, true, List, [], ◌∷◌, length, Option, None, Some, Ok, Err, IfSome}
 use Rattle.std.specs.Option.{option_map}
 use Rattle.mlt_base.specs.declared.port.Port.{Port}
 use Rattle.mlt_base.specs.declared.port.Port.TheVariants.{Text}
 use Rattle.mlt_host.specs.Count.{next}
 use Rattle.mlt_host.specs.Host.{PortState, HostState, Rose, Appends, AppendsFront}
-use Rattle.mlt_tree.specs.Lines.{refusal_line, source_line, sink_line, memory_line}
+use Rattle.mlt_tree.specs.Lines.{refusal_line, source_line, sink_line, memory_line, has_line}
 use Rattle.mlt_tree.specs.Loading.{Load}
 use Rattle.mlt_tree.specs.Reading.{Reading, Play, Print, Written, job_port, text_bytes}
-use Rattle.mlt_tree.specs.Show.{written_name, written_frames}
-use Rattle.melt_build.specs.Loads.{Asks, StopsAt, AsksSome, names_of}
+use Rattle.mlt_tree.specs.Show.{played, written_name, written_frames}
+use Rattle.melt_build.specs.Loads.{Asks, AsksUpTo, AsksSome, names_of}
 use Rattle.melt_run.specs.declared.status.Tally.{Tally}
 use Rattle.melt_run.specs.declared.status.Status.{Status}
 use Rattle.melt_run.specs.declared.status.Status.TheVariants.{Done, Refused, SourceFault, SinkFault, Memory}
-use Rattle.melt_run.specs.Play.{no_tally, full_tally, Stops, CreatesOnce}
+use Rattle.melt_run.specs.Play.{no_tally, full_tally, Stops, IsCreated, CreatesOnce}
 use Rattle.melt_run.specs.Status.{line_of}
 
 -- ---- what each output has got
@@ -35,8 +35,8 @@ IsWritten (Some wanted) old new =
     IfSome new (λ port. port ≡ record { name = wanted.name; bytes = wanted.bytes; acknowledged = length wanted.bytes })
 
 -- a port that the run does not write is not created; an output is created once at most, and once where all is done
-abbrev pub IsCreatedOnce : Option Written → Status → ℕ → ℕ → Type 0
-IsCreatedOnce wanted status old new = CreatesOnce (option_map (λ w. w.name) wanted) status old new
+abbrev pub IsCreatedOnce : Port → Option Written → Status → ℕ → ℕ → Type 0
+IsCreatedOnce port wanted status old new = CreatesOnce port (option_map (λ w. w.name) wanted) status old new
 
 -- nothing was created
 pub record CreatesNothing (old new : HostState) : Type 0 where
@@ -47,14 +47,14 @@ pub record CreatesNothing (old new : HostState) : Type 0 where
 
 -- the accounts of a run that is done
 abbrev pub IsWholeTally : Reading → Tally → Type 0
-IsWholeTally (Ok (Play show)) tally = tally ≡ full_tally show (written_frames show)
+IsWholeTally (Ok (Play show)) tally = tally ≡ full_tally (played show) (written_frames show)
 IsWholeTally (Ok (Print job)) tally = tally ≡ no_tally
 IsWholeTally (Err stop) tally = ⊥
 
 -- a port that the run writes has failed: each output has the positions before the fault, and the failed one a part of the next
 abbrev pub FailsAt : Reading → Port → Tally → HostState → HostState → Type 0
 FailsAt (Ok (Play show)) port tally old new =
-    (written_name show port ≢ None) × Rose (old.faults port) (new.faults port) × Stops show port tally old new
+    (written_name show port ≢ None) × Rose (old.faults port) (new.faults port) × Stops (played show) port tally old new
 FailsAt (Ok (Print job)) port tally old new =
     (port ≡ job_port job) × (tally ≡ no_tally) × Rose (old.faults port) (new.faults port)
 FailsAt (Err stop) port tally old new = ⊥
@@ -101,7 +101,7 @@ Says (Err stop) status old new = Tells (line_of status) old new
 abbrev pub AsksFor : Status → List Load → HostState → HostState → Type 0
 AsksFor (Done tally) loads old new = Asks (names_of loads) old new
 AsksFor (Refused refusal) loads old new = Asks (names_of loads) old new
-AsksFor (SourceFault place) loads old new = StopsAt place loads old new
+AsksFor (SourceFault place) loads old new = AsksUpTo place loads old new
 AsksFor (SinkFault port tally) loads old new = Asks (names_of loads) old new
 AsksFor Memory loads old new = AsksSome loads old new
 
@@ -112,11 +112,13 @@ pub record CountsLine (line : List ℕ) (old new : HostState) : Type 0 where
   pub others : (port : Port) → port ≢ Text → new.faults port ≡ old.faults port
   pub told : Tells line old new
 
--- the count of the port that failed rose, and no other but the text's; a line was told unless the text failed itself
-pub record CountsFault (failed : Port) (old new : HostState) : Type 0 where
+-- the count of the port that failed rose, and no other but the text's; whether it was created follows from the accounts;
+-- and a line was told where the port has one
+pub record CountsFault (failed : Port) (tally : Tally) (old new : HostState) : Type 0 where
   pub rose : Rose (old.faults failed) (new.faults failed)
   pub others : (port : Port) → port ≢ failed → port ≢ Text → new.faults port ≡ old.faults port
-  pub told : failed ≢ Text → Tells (sink_line failed) old new
+  pub created : failed ≢ Text → IsCreated failed (SinkFault failed tally) (old.creates failed) (new.creates failed)
+  pub told : has_line failed ≡ true → Tells (sink_line failed) old new
 
 -- how the count of loads that failed goes: it has risen where a file can't be read, and else it is as before
 abbrev pub CountsLoads : Status → HostState → HostState → Type 0
@@ -131,7 +133,7 @@ abbrev pub CountsPorts : Status → HostState → HostState → Type 0
 CountsPorts (Done tally) old new = (port : Port) → new.faults port ≡ old.faults port
 CountsPorts (Refused refusal) old new = CountsLine (refusal_line refusal) old new
 CountsPorts (SourceFault place) old new = CountsLine (source_line place) old new
-CountsPorts (SinkFault port tally) old new = CountsFault port old new
+CountsPorts (SinkFault port tally) old new = CountsFault port tally old new
 CountsPorts Memory old new = CountsLine memory_line old new
 
 -- how all counts of faults go

@@ -8,7 +8,7 @@ use Rattle.mlt_tree.specs.Show.{Source}
 use Rattle.mlt_graph.specs.Show.{meant}
 use Rattle.mlt_graph.specs.declared.show.Show.{Show}
 use Rattle.mlt_host.specs.Host.{HostState, Rose}
-use Rattle.melt_build.specs.Loads.{Asks, StopsAt, AsksSome, names_of}
+use Rattle.melt_build.specs.Loads.{Asks, AsksUpTo, AsksSome, names_of}
 use Rattle.melt_run.specs.declared.prepared.Prepared.{Prepared}
 use Rattle.melt_run.specs.declared.prepared.Prepared.TheVariants.{Play, Text, Refused, SourceFault, Memory}
 use Rattle.melt_run.specs.Text.{job_view}
@@ -56,7 +56,7 @@ abbrev pub AsksWhilePreparing : Prepared → List Load → HostState → HostSta
 AsksWhilePreparing (Play show table) loads old new = Asks (names_of loads) old new
 AsksWhilePreparing (Text job) loads old new = Asks (names_of loads) old new
 AsksWhilePreparing (Refused refusal) loads old new = Asks (names_of loads) old new
-AsksWhilePreparing (SourceFault place) loads old new = StopsAt place loads old new
+AsksWhilePreparing (SourceFault place) loads old new = AsksUpTo place loads old new
 AsksWhilePreparing Memory loads old new = AsksSome loads old new
 
 -- a step of reading gives what is prepared, and asks for its files

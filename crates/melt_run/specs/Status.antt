@@ -1,8 +1,8 @@
 -- How a run ends, by cases.
-use Rattle.std.specs.Prelude.{ℕ, List, []}
+use Rattle.std.specs.Prelude.{ℕ, if◌then◌else◌, List, []}
 use Rattle.mlt_base.specs.declared.port.Port.{Port}
 use Rattle.mlt_tree.specs.declared.refusal.Refusal.{Refusal}
-use Rattle.mlt_tree.specs.Lines.{refusal_line, source_line, sink_line, memory_line}
+use Rattle.mlt_tree.specs.Lines.{refusal_line, source_line, sink_line, memory_line, has_line}
 use Rattle.melt_run.specs.declared.status.Tally.{Tally}
 use Rattle.melt_run.specs.declared.status.Status.{Status}
 use Rattle.melt_run.specs.declared.status.Status.TheVariants.{Done, Refused, SourceFault, SinkFault, Memory}
@@ -15,12 +15,12 @@ code_of (SourceFault place) = 2
 code_of (SinkFault port tally) = 3
 code_of Memory = 4
 
--- the line that tells a person, none where all is done
+-- the line that tells a person, none where all is done, nor where a port that has none failed
 abbrev pub line_of : Status → List ℕ
 line_of (Done tally) = []
 line_of (Refused refusal) = refusal_line refusal
 line_of (SourceFault place) = source_line place
-line_of (SinkFault port tally) = sink_line port
+line_of (SinkFault port tally) = if has_line port then sink_line port else []
 line_of Memory = memory_line
 
 abbrev pub IfDone : Status → (Tally → Type 0) → Type 0

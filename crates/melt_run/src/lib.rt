@@ -8,6 +8,7 @@
 pub mod gate;
 pub mod line;
 pub mod play;
+pub mod position;
 pub mod prepared;
 pub mod run;
 pub mod status;
@@ -16,6 +17,7 @@ pub mod text;
 pub use gate::{Free, Gate};
 pub use mlt_tree::QueryKind;
 pub use play::play_serial;
+pub use position::render_position;
 pub use prepared::{Prepared, prepare};
 pub use run::melt;
 pub use status::{Status, Tally};

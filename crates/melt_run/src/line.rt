@@ -2,8 +2,8 @@
 
 ghost use Rattle.std.specs.Prelude.{◌≡◌, ◌≤◌, ◌<◌, ◌+◌, ◌*◌, ◌++◌, [], All, length, map, take, drop};
 ghost use Rattle.mlt_tree.specs.declared.refusal.Cause.TheVariants.{OutOfRange};
-ghost use Rattle.mlt_tree.specs.Lines.{Count, Number, piece_text, text_of, words, cause_pieces, inner_pieces, port_text, refusal_line, source_line, sink_line, memory_line};
-ghost use Rattle.melt_run.specs.Pieces.{piece_view, IsShort};
+ghost use Rattle.mlt_tree.specs.Lines.{Count, Number, part_text, text_of, words, cause_parts, inner_parts, port_text, refusal_line, source_line, sink_line, has_line, memory_line};
+ghost use Rattle.melt_run.specs.LineParts.{part_view, FitsLine};
 ghost use Rattle.melt_run.specs.Status.{line_of};
 
 use crate::status::Status;
@@ -12,18 +12,18 @@ use mlt_base::Port;
 use mlt_tree::{Cause, Refusal};
 use std::marker::Model;
 
-/// A piece of a line: words, or a number in decimal digits. It has at most 40 bytes.
+/// A part of a line: words, or a number in decimal digits. It has at most 40 bytes.
 #[derive(Clone, Copy)]
-pub(crate) enum Piece {
+pub(crate) enum LinePart {
     Words(&'static str),
     Count(u64),
     Number(i64),
 }
 
-/// No words, behind the pieces of a short text.
-const NOTHING: Piece = Piece::Words("");
+/// No words, behind the parts of a short text.
+const NOTHING: LinePart = LinePart::Words("");
 
-/// Room for the longest line, which has 13 pieces.
+/// Room for the longest line, which has 13 parts.
 const ROOM: usize = 520;
 
 /// A line of at most 520 bytes, seen as its bytes.
@@ -78,58 +78,58 @@ impl Line {
         self.length += text.len();
     }
 
-    /// Adds a piece at the end.
-    fn piece(&mut self, piece: Piece)
-        requires short { IsShort piece }
+    /// Adds a part at the end.
+    fn part(&mut self, part: LinePart)
+        requires short { FitsLine part }
         requires room { length self.old + 40 ≤ 520 }
-        ensures text { self.new ≡ self.old ++ piece_text (piece_view piece) }
+        ensures text { self.new ≡ self.old ++ part_text (part_view part) }
         ensures short { length self.new ≤ length self.old + 40 }
     {
         let mut buffer = Buffer::new();
-        match piece {
-            Piece::Words(words) => self.text(words),
-            Piece::Count(n) => self.text(buffer.format(n)),
-            Piece::Number(n) => self.text(buffer.format(n)),
+        match part {
+            LinePart::Words(words) => self.text(words),
+            LinePart::Count(n) => self.text(buffer.format(n)),
+            LinePart::Number(n) => self.text(buffer.format(n)),
         }
     }
 
-    /// Adds pieces, one after another.
-    fn pieces(&mut self, pieces: &[Piece])
-        requires short { All IsShort pieces.now }
-        requires room { length self.old + length pieces.now * 40 ≤ 520 }
-        ensures text { self.new ≡ self.old ++ text_of (map piece_view pieces.now) }
-        ensures short { length self.new ≤ length self.old + length pieces.now * 40 }
+    /// Adds parts, one after another.
+    fn parts(&mut self, parts: &[LinePart])
+        requires short { All FitsLine parts.now }
+        requires room { length self.old + length parts.now * 40 ≤ 520 }
+        ensures text { self.new ≡ self.old ++ text_of (map part_view parts.now) }
+        ensures short { length self.new ≤ length self.old + length parts.now * 40 }
     {
-        for piece in pieces {
-            self.piece(*piece);
+        for part in parts {
+            self.part(*part);
         }
     }
 }
 
-/// A number of things, as a piece.
-fn count(n: u32) -> Piece
-    ensures text { piece_view result ≡ Count n }
-    ensures short { IsShort result }
+/// A number of things, as a part.
+fn count(n: u32) -> LinePart
+    ensures text { part_view result ≡ Count n }
+    ensures short { FitsLine result }
 {
-    Piece::Count(u64::from(n))
+    LinePart::Count(u64::from(n))
 }
 
-/// A number, as a piece.
-fn number(n: i64) -> Piece
-    ensures text { piece_view result ≡ Number n }
-    ensures short { IsShort result }
+/// A number, as a part.
+fn number(n: i64) -> LinePart
+    ensures text { part_view result ≡ Number n }
+    ensures short { FitsLine result }
 {
-    Piece::Number(n)
+    LinePart::Number(n)
 }
 
 /// Words alone.
-fn words(text: &'static str) -> [Piece; 6]
+fn words(text: &'static str) -> [LinePart; 6]
     requires { length text.now ≤ 40 }
-    ensures text { text_of (map piece_view result) ≡ text_of (words text.now) }
-    ensures short { All IsShort result }
+    ensures text { text_of (map part_view result) ≡ text_of (words text.now) }
+    ensures short { All FitsLine result }
 {
     [
-        Piece::Words(text),
+        LinePart::Words(text),
         NOTHING,
         NOTHING,
         NOTHING,
@@ -138,27 +138,27 @@ fn words(text: &'static str) -> [Piece; 6]
     ]
 }
 
-/// The pieces of a value that is out of its range.
-fn out_of_range(value: i64, low: i64, high: i64) -> [Piece; 6]
-    ensures text { text_of (map piece_view result) ≡ text_of (cause_pieces (OutOfRange value low high)) }
-    ensures short { All IsShort result }
+/// The parts of a value that is out of its range.
+fn out_of_range(value: i64, low: i64, high: i64) -> [LinePart; 6]
+    ensures text { text_of (map part_view result) ≡ text_of (cause_parts (OutOfRange value low high)) }
+    ensures short { All FitsLine result }
 {
     [
         number(value),
-        Piece::Words(" is outside "),
+        LinePart::Words(" is outside "),
         number(low),
-        Piece::Words(" to "),
+        LinePart::Words(" to "),
         number(high),
         NOTHING,
     ]
 }
 
-/// The pieces of a cause's text, and nothing behind them.
-fn cause_pieces(cause: Cause) -> [Piece; 6]
-    ensures text { text_of (map piece_view result) ≡ text_of (cause_pieces cause) }
-    ensures short { All IsShort result }
+/// The parts of a cause's text, and nothing behind them.
+fn cause_parts(cause: Cause) -> [LinePart; 6]
+    ensures text { text_of (map part_view result) ≡ text_of (cause_parts cause) }
+    ensures short { All FitsLine result }
 {
-    use Piece::{Count, Words};
+    use LinePart::{Count, Words};
     match cause {
         Cause::UnknownOption => words("unknown option"),
         Cause::Unsupported => words("option not supported"),
@@ -269,17 +269,17 @@ fn cause_pieces(cause: Cause) -> [Piece; 6]
     }
 }
 
-/// The pieces of a place within a file, where there is one.
-fn inner_pieces(place: Option<u32>) -> [Piece; 3]
-    ensures text { text_of (map piece_view result) ≡ text_of (inner_pieces place) }
-    ensures short { All IsShort result }
+/// The parts of a place within a file, where there is one.
+fn inner_parts(place: Option<u32>) -> [LinePart; 3]
+    ensures text { text_of (map part_view result) ≡ text_of (inner_parts place) }
+    ensures short { All FitsLine result }
 {
     match place {
         None => [NOTHING, NOTHING, NOTHING],
         Some(place) => [
-            Piece::Words("in file word "),
+            LinePart::Words("in file word "),
             count(place),
-            Piece::Words(": "),
+            LinePart::Words(": "),
         ],
     }
 }
@@ -302,13 +302,13 @@ fn refusal_line(refusal: &Refusal) -> Line
     ensures { result ≡ refusal_line refusal.now }
 {
     let mut line = Line::new();
-    line.pieces(&[
-        Piece::Words("melt: word "),
+    line.parts(&[
+        LinePart::Words("melt: word "),
         count(refusal.word),
-        Piece::Words(": "),
+        LinePart::Words(": "),
     ]);
-    line.pieces(&inner_pieces(refusal.inner));
-    line.pieces(&cause_pieces(refusal.cause));
+    line.parts(&inner_parts(refusal.inner));
+    line.parts(&cause_parts(refusal.cause));
     line.text("\n");
     line
 }
@@ -318,10 +318,10 @@ fn source_line(place: u32) -> Line
     ensures { result ≡ source_line place }
 {
     let mut line = Line::new();
-    line.pieces(&[
-        Piece::Words("melt: word "),
+    line.parts(&[
+        LinePart::Words("melt: word "),
         count(place),
-        Piece::Words(": "),
+        LinePart::Words(": "),
     ]);
     line.text("cannot read\n");
     line
@@ -347,7 +347,17 @@ fn memory_line() -> Line
     line
 }
 
-/// The line of a run that ended so; no byte where all is done.
+/// Whether a failed port is told.
+fn has_line(port: Port) -> bool
+    ensures { result ≡ has_line port }
+{
+    match port {
+        Port::Video | Port::Audio => true,
+        Port::Script | Port::Text => false,
+    }
+}
+
+/// The line of a run that ended so; no byte where all is done, nor where a script or the text failed.
 pub fn fault_line(status: &Status) -> Line
     ensures { result ≡ line_of status.now }
 {
@@ -355,7 +365,13 @@ pub fn fault_line(status: &Status) -> Line
         Status::Done(_) => Line::new(),
         Status::Refused(refused) => refusal_line(refused),
         Status::SourceFault(place) => source_line(*place),
-        Status::SinkFault(port, _) => sink_line(*port),
+        Status::SinkFault(port, _) => {
+            if has_line(*port) {
+                sink_line(*port)
+            } else {
+                Line::new()
+            }
+        }
         Status::Memory => memory_line(),
     }
 }

@@ -1,36 +1,32 @@
 //! Plays a show on the calling thread, frame after frame.
 
-ghost use Rattle.std.specs.Prelude.{◌≡◌, ◌≤◌, ◌+◌, ◌^◌, ◌<◌, ℕ, All, IfSome, OnOk, OnErr, length};
+ghost use Rattle.std.specs.Prelude.{◌≡◌, ◌≤◌, ◌+◌, ◌^◌, ◌<◌, OnOk, OnErr, length};
 ghost use Rattle.mlt_base.specs.declared.port.Port.TheVariants.{Video};
 ghost use Rattle.mlt_base.specs.ProfileView.{measures_of};
-ghost use Rattle.mlt_eval.specs.Fitted.{AreFitted};
-ghost use Rattle.mlt_frame.specs.Loads.{load, map, loads as loads_of, maps as maps_of};
 ghost use Rattle.mlt_host.specs.Host.{Appends, AppendsFront, Counts, OnlyPort};
 ghost use Rattle.mlt_pool.specs.Class.{class_of};
 ghost use Rattle.mlt_pool.specs.Counts.{home_of, all_lent};
 ghost use Rattle.mlt_graph.specs.Piece.{piece_of};
 ghost use Rattle.mlt_graph.specs.Sealed.{tree};
 ghost use Rattle.mlt_graph.specs.Show.{meant};
-ghost use Rattle.mlt_tree.specs.Show.{video_of};
+ghost use Rattle.mlt_tree.specs.Show.{played, video_of, AreFitted};
 ghost use Rattle.mlt_tree.specs.Needs.{needs};
 ghost use Rattle.mlt_tree.specs.Sources.{Fits};
 ghost use Rattle.mlt_tree.specs.Tree.{len};
 ghost use Rattle.mlt_tree.specs.Unbuilt.{IsPlayed};
 ghost use Rattle.melt_run.specs.Lending.{LendsAlike};
-ghost use Rattle.melt_run.specs.Play.{Plays, KeepsElse};
+ghost use Rattle.melt_run.specs.Play.{Plays, KeepsElse, DestroysNothing};
 ghost use Rattle.melt_run.specs.Ready.{IsRackOf, AreStacksOf, IsPlayable};
 
+use crate::position::render_position;
 use crate::status::{Status, Tally};
-use mlt_base::{Port, Pos, Profile, SourceNo};
-use mlt_eval::{Fitted, Rack, render};
-use mlt_frame::{Op, Ops};
-use mlt_graph::{Show, unit_of};
+use mlt_base::{Port, Pos};
+use mlt_eval::{Fitted, Rack};
+use mlt_frame::Ops;
+use mlt_graph::{Show, pairs_of, unit_of};
 use mlt_host::{Failed, Host};
 use mlt_pool::{Pool, class};
-use mlt_slice::Alone;
 use mlt_source::SourceTable;
-use mlt_start::start;
-use mlt_tree::MergeStep;
 use std::alloc::Global;
 
 /// The accounts of a run whose frames were all appended, made of so many pictures.
@@ -67,78 +63,6 @@ fn piece(show: &Show) -> usize
     ensures small { result ≤ 2 ^ 28 }
 {
     show.output.piece(&show.profile) as usize
-}
-
-/// The source whose picture an operation takes: one that it loads, or the map of a merge.
-fn source_of(op: &Op) -> Option<SourceNo>
-    ensures { (count : ℕ) → All (λ source. source < count) (load op.now) → All (λ source. source < count) (map op.now) → IfSome result (λ no. no.0 < count) }
-{
-    match op {
-        Op::Load { source, at: _ } => Some(*source),
-        Op::Merge { step, .. } => match step {
-            MergeStep::Luma { map, .. } => *map,
-            MergeStep::Composite { .. }
-            | MergeStep::Matte
-            | MergeStep::Mix { .. }
-            | MergeStep::Sum => None,
-        },
-        Op::Absent | Op::Filter { .. } | Op::Keep { .. } => None,
-    }
-}
-
-/// Whether operations take more pictures that are not kept than there are places left. It decides only how often
-/// a picture is fitted.
-fn is_short(ops: &[Op], fitted: &Fitted) -> bool {
-    let mut spare = fitted.spare();
-    for op in ops {
-        if let Some(source) = source_of(op) {
-            if fitted.find(source).is_none() {
-                if spare == 0 {
-                    return true;
-                }
-                spare -= 1;
-            }
-        }
-    }
-    false
-}
-
-/// Fits the picture of a source and keeps it, unless it is kept, or there is no place or no memory for it.
-fn keep_one(
-    alloc: Global,
-    table: &SourceTable,
-    profile: &Profile,
-    fitted: &mut Fitted,
-    no: SourceNo,
-)
-    requires there { no.0 < length table.now }
-    requires fitted { AreFitted (measures_of profile.now) table.now fitted.old.fits }
-    ensures { AreFitted (measures_of profile.now) table.now fitted.new.fits }
-{
-    if fitted.find(no).is_some() || fitted.spare() == 0 {
-        return;
-    }
-    if let Ok(picture) = Fitted::make(alloc, table, no, profile) {
-        let _ = fitted.add(no, picture);
-    }
-}
-
-/// Fits the pictures that operations load, and those of their maps, and keeps them, so that a picture isn't fitted
-/// anew for each frame. Where they don't find room beside those that are kept, these go first.
-fn keep(alloc: Global, table: &SourceTable, profile: &Profile, fitted: &mut Fitted, ops: &[Op])
-    requires there { All (λ source. source < length table.now) (loads_of ops.now) }
-    requires maps { All (λ source. source < length table.now) (maps_of ops.now) }
-    requires fitted { AreFitted (measures_of profile.now) table.now fitted.old.fits }
-    ensures { AreFitted (measures_of profile.now) table.now fitted.new.fits }
-{
-    if is_short(ops, fitted) {
-        fitted.clear();
-    }
-    for op in ops {
-        if let Some(source) = source_of(op) {
-            keep_one(alloc, table, profile, fitted, source);
-        }
-    }
 }
 
 /// Starts and renders a position into a buffer that the pool lends, appends its picture, and takes the buffer
@@ -178,25 +102,7 @@ fn play_frame<H: Host>(
     let Some(buffer) = pool.lend(piece(show)) else {
         unreachable!()
     };
-    // so each position of it is below 2^31
-    let _ = show.sealed.length();
-    let frame = start(&show.sealed, Pos(at), buffer, ops);
-    keep(
-        alloc,
-        table,
-        &show.profile,
-        fitted,
-        frame.image().as_slice(),
-    );
-    let rendered = render(
-        frame,
-        table,
-        fitted,
-        rack,
-        &Alone,
-        &show.profile,
-        &show.output,
-    );
+    let rendered = render_position(alloc, show, table, Pos(at), buffer, rack, fitted, ops);
     let answer = host.append(Port::Video, rendered.video());
     let loads = rendered.loads();
     let (buffer, ops) = rendered.into_parts();
@@ -221,8 +127,9 @@ fn play_frames<H: Host>(
     requires rack { IsRackOf show.now rack.old }
     requires fitted { AreFitted (measures_of show.now.profile) table.now fitted.old.fits }
     requires stacks { AreStacksOf show.now ops }
-    ensures plays { Plays (meant show.now table.now) result (H.state host.old) (H.state host.new) }
-    ensures keeps { KeepsElse (meant show.now table.now) result (H.state host.old) (H.state host.new) }
+    ensures plays { Plays (played (meant show.now table.now)) result (H.state host.old) (H.state host.new) }
+    ensures keeps { KeepsElse (played (meant show.now table.now)) result (H.state host.old) (H.state host.new) }
+    ensures alone { DestroysNothing result }
     ensures lent { LendsAlike pool.old pool.new }
     ensures rack { IsRackOf show.now rack.new }
 {
@@ -259,8 +166,9 @@ fn play_on<H: Host>(
 ) -> Status
     requires playable { IsPlayable show.now table.now }
     requires rack { IsRackOf show.now rack.old }
-    ensures plays { Plays (meant show.now table.now) result (H.state host.old) (H.state host.new) }
-    ensures keeps { KeepsElse (meant show.now table.now) result (H.state host.old) (H.state host.new) }
+    ensures plays { Plays (played (meant show.now table.now)) result (H.state host.old) (H.state host.new) }
+    ensures keeps { KeepsElse (played (meant show.now table.now)) result (H.state host.old) (H.state host.new) }
+    ensures alone { DestroysNothing result }
     ensures lent { LendsAlike pool.old pool.new }
     ensures rack { IsRackOf show.now rack.new }
 {
@@ -285,11 +193,12 @@ fn play_in<H: Host>(
     pool: &mut Pool,
 ) -> Status
     requires { IsPlayable show.now table.now }
-    ensures plays { Plays (meant show.now table.now) result (H.state host.old) (H.state host.new) }
-    ensures keeps { KeepsElse (meant show.now table.now) result (H.state host.old) (H.state host.new) }
+    ensures plays { Plays (played (meant show.now table.now)) result (H.state host.old) (H.state host.new) }
+    ensures keeps { KeepsElse (played (meant show.now table.now)) result (H.state host.old) (H.state host.new) }
+    ensures alone { DestroysNothing result }
     ensures lent { all_lent pool.new ≡ all_lent pool.old }
 {
-    let size = unit_of(&show.profile) as usize;
+    let size = unit_of(&show.profile, pairs_of(show.output.channels)) as usize;
     let need = show.sealed.need();
     let Ok(()) = pool.reserve(class::of_length(size), need) else {
         return Status::Memory;
@@ -306,8 +215,9 @@ fn play_in<H: Host>(
 /// Plays the show with a pool that is made for it and closed at the end.
 fn play_all<H: Host>(alloc: Global, show: &Show, table: &SourceTable, host: &mut H) -> Status
     requires { IsPlayable show.now table.now }
-    ensures plays { Plays (meant show.now table.now) result (H.state host.old) (H.state host.new) }
-    ensures keeps { KeepsElse (meant show.now table.now) result (H.state host.old) (H.state host.new) }
+    ensures plays { Plays (played (meant show.now table.now)) result (H.state host.old) (H.state host.new) }
+    ensures keeps { KeepsElse (played (meant show.now table.now)) result (H.state host.old) (H.state host.new) }
+    ensures alone { DestroysNothing result }
 {
     let mut pool = Pool::new(alloc);
     let status = play_in(alloc, show, table, host, &mut pool);
@@ -323,12 +233,13 @@ fn play_all<H: Host>(alloc: Global, show: &Show, table: &SourceTable, host: &mut
 /// uses them again. As many fitted pictures are kept as the output's `cache` says; these are made as frames
 /// come to them, and where memory is wanting for one, it is fitted anew for each frame.
 ///
-/// The table fits what is played. Until it is built, that has no sound.
+/// It destroys no frame. The table fits what is played. Until it is built, that has no sound.
 pub fn play_serial<H: Host>(alloc: Global, show: Show, table: SourceTable, host: &mut H) -> Status
     requires fits { Fits table (tree show.sealed) }
     requires played { IsPlayed (meant show table) }
-    ensures plays { Plays (meant show table) result (H.state host.old) (H.state host.new) }
-    ensures keeps { KeepsElse (meant show table) result (H.state host.old) (H.state host.new) }
+    ensures plays { Plays (played (meant show table)) result (H.state host.old) (H.state host.new) }
+    ensures keeps { KeepsElse (played (meant show table)) result (H.state host.old) (H.state host.new) }
+    ensures alone { DestroysNothing result }
 {
     play_all(alloc, &show, &table, host)
 }

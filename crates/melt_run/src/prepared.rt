@@ -8,17 +8,18 @@ ghost use Rattle.mlt_tree.specs.Composing.{show_of};
 ghost use Rattle.mlt_tree.specs.GroupWords.{IsAllowed, words_in};
 ghost use Rattle.mlt_tree.specs.Loading.{Files};
 ghost use Rattle.mlt_tree.specs.Reading as meaning;
-ghost use Rattle.mlt_tree.specs.Refusing.{over, refusal_at as refusal_of};
+ghost use Rattle.mlt_tree.specs.Refusing.{refusal_at as refusal_of};
 ghost use Rattle.mlt_tree.specs.Sources.{Fits};
+ghost use Rattle.mlt_tree.specs.Table.{is_of as is_of_kind};
 ghost use Rattle.mlt_tree.specs.Unbuilt.{IsPlayed};
 ghost use Rattle.mlt_graph.specs.Sealed.{tree};
 ghost use Rattle.mlt_graph.specs.Show.{meant};
-ghost use Rattle.melt_build.specs.Loads.{Tells};
+ghost use Rattle.melt_build.specs.Loads.{TellsFiles};
 ghost use Rattle.melt_run.specs.Prepared.{Meant, Means, Reads, IfPlay, GoesPrepared, CountsPrepared, loads_on, AsksWhilePreparing};
 ghost use Rattle.melt_run.specs.Show.{texts};
 
 use crate::text::TextJob;
-use melt_build::{BuildFault, build};
+use melt_build::{BuildFault, build, first_two};
 use melt_words::groups;
 use mlt_base::{Try, WordCause, WordFault};
 use mlt_graph::Show;
@@ -41,21 +42,21 @@ pub enum Prepared {
 
 /// Whether a group is of this kind.
 fn is_of(kind: GroupKind, group: &Group) -> bool
-    ensures { result ≡ meaning.is_of kind group.now }
+    ensures { result ≡ is_of_kind kind group.now }
 {
     kind == group.kind
 }
 
 /// Whether there is a group of this kind.
 fn has(kind: GroupKind, groups: &[Group]) -> bool
-    ensures { result ≡ list_any (meaning.is_of kind) groups.now }
+    ensures { result ≡ list_any (is_of_kind kind) groups.now }
 {
     groups.iter().any(|group| is_of(kind, group))
 }
 
 /// The first group of this kind.
 fn first_of(kind: GroupKind, groups: &[Group]) -> Option<&Group>
-    ensures { option_copied result ≡ find (meaning.is_of kind) groups.now }
+    ensures { option_copied result ≡ find (is_of_kind kind) groups.now }
 {
     for group in groups {
         if is_of(kind, group) {
@@ -79,47 +80,37 @@ fn query_named(text: &str) -> Option<QueryKind>
     }
 }
 
-/// The first `-query`; a second is refused.
-fn first_query(asked: Option<QueryKind>, group: &Group) -> Result<Option<QueryKind>, Refusal>
-    ensures { result ≡ meaning.query_again asked group.now }
+/// What a group of `-query` asks for.
+fn query_asked(group: &Group) -> Result<QueryKind, Refusal>
+    ensures { result ≡ meaning.query_asked group.now }
 {
-    match asked {
-        Some(_) => Err(Refusal::at(group.place, Cause::TooMany { limit: 1 })),
-        None => match query_named(group.arg.as_str()) {
-            None => Err(Refusal::at(group.place, Cause::BadValue)),
-            Some(asked) => Ok(Some(asked)),
-        },
+    match query_named(group.arg.as_str()) {
+        None => Err(Refusal::at(group.place, Cause::BadValue)),
+        Some(asked) => Ok(asked),
     }
 }
 
-/// The first question of the groups so far; a second one is refused.
-#[tactic(auto, unfolding(mlt_tree::specs::Reading::query_step))]
-fn query_step(asked: Option<QueryKind>, group: &Group) -> Result<Option<QueryKind>, Refusal>
-    ensures { result ≡ meaning.query_step asked group.now }
+/// The question of the groups, if there is one; a second is refused.
+#[tactic(auto, unfolding(mlt_tree::specs::Reading::query_made))]
+fn query_made(groups: &[Group]) -> Result<Option<QueryKind>, Refusal>
+    ensures { result ≡ meaning.query_made groups.now }
 {
-    if is_of(GroupKind::Query, group) {
-        first_query(asked, group)
-    } else {
-        Ok(asked)
+    let (first, second) = first_two(groups, GroupKind::Query);
+    let Some(group) = first else {
+        return Ok(None);
+    };
+    let asked = query_asked(group)?;
+    match second {
+        Some(again) => Err(Refusal::at(again.place, Cause::TooMany { limit: 1 })),
+        None => Ok(Some(asked)),
     }
-}
-
-/// What `-query` asks for.
-fn asked(groups: &[Group]) -> Result<Option<QueryKind>, Refusal>
-    ensures { result ≡ over meaning.query_step None groups.now }
-{
-    let mut asked = None;
-    for group in groups {
-        asked = query_step(asked, group)?;
-    }
-    Ok(asked)
 }
 
 /// The list that `-query` asks for.
 fn query(groups: &[Group]) -> Prepared
-    ensures { Reads result (meaning.query_read (over meaning.query_step None groups.now)) }
+    ensures { Reads result (meaning.query_read (meaning.query_made groups.now)) }
 {
-    match asked(groups) {
+    match query_made(groups) {
         Ok(None) => Prepared::Text(TextJob::Version),
         Ok(Some(asked)) => Prepared::Text(TextJob::Query(asked)),
         Err(refusal) => Prepared::Refused(refusal),
@@ -139,7 +130,7 @@ fn later_job(groups: &[Group]) -> Option<&Group>
 /// The show that the groups mean.
 fn play<H: Host>(alloc: Global, groups: &GroupList, host: &mut H) -> Prepared
     requires { All IsAllowed groups.now }
-    ensures goes { (files : Files) → Tells files (meaning.show_read (show_of files (words_in groups.now) groups.now)) (H.state host.old) →
+    ensures goes { (files : Files) → TellsFiles files (meaning.show_read (show_of files (words_in groups.now) groups.now)) (H.state host.old) →
         GoesPrepared result (meaning.show_read (show_of files (words_in groups.now) groups.now)) (H.state host.old) (H.state host.new) }
     ensures fits { IfPlay result (λ show table. Fits table (tree show.sealed)) }
     ensures played { IfPlay result (λ show table. IsPlayed (meant show table)) }
@@ -157,7 +148,7 @@ fn play<H: Host>(alloc: Global, groups: &GroupList, host: &mut H) -> Prepared
 /// The first of the jobs that the groups have, else to play.
 fn job<H: Host>(alloc: Global, groups: &GroupList, host: &mut H) -> Prepared
     requires { All IsAllowed groups.now }
-    ensures goes { (files : Files) → Tells files (meaning.job_of files (words_in groups.now) groups.now) (H.state host.old) →
+    ensures goes { (files : Files) → TellsFiles files (meaning.job_of files (words_in groups.now) groups.now) (H.state host.old) →
         GoesPrepared result (meaning.job_of files (words_in groups.now) groups.now) (H.state host.old) (H.state host.new) }
     ensures fits { IfPlay result (λ show table. Fits table (tree show.sealed)) }
     ensures played { IfPlay result (λ show table. IsPlayed (meant show table)) }
@@ -179,7 +170,7 @@ fn job<H: Host>(alloc: Global, groups: &GroupList, host: &mut H) -> Prepared
 
 /// What the words mean.
 fn read<H: Host>(alloc: Global, words: &[String], host: &mut H) -> Prepared
-    ensures goes { (files : Files) → Tells files (meaning.words_read (texts words.now) files) (H.state host.old) →
+    ensures goes { (files : Files) → TellsFiles files (meaning.words_read (texts words.now) files) (H.state host.old) →
         GoesPrepared result (meaning.words_read (texts words.now) files) (H.state host.old) (H.state host.new) }
     ensures fits { IfPlay result (λ show table. Fits table (tree show.sealed)) }
     ensures played { IfPlay result (λ show table. IsPlayed (meant show table)) }

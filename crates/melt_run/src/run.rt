@@ -6,12 +6,13 @@ ghost use Rattle.mlt_base.specs.declared.port.Port.TheVariants.{Text};
 ghost use Rattle.mlt_host.specs.Host.{OnlyPort, Rose};
 ghost use Rattle.mlt_tree.specs.Loading as read;
 ghost use Rattle.mlt_tree.specs.Reading.{written};
+ghost use Rattle.mlt_tree.specs.Show.{played as played_run};
 ghost use Rattle.mlt_tree.specs.Sources.{Fits};
 ghost use Rattle.mlt_tree.specs.Unbuilt.{IsPlayed};
 ghost use Rattle.mlt_tree.specs.declared.refusal.Refusal.{Refusal};
 ghost use Rattle.mlt_graph.specs.Sealed.{tree};
 ghost use Rattle.mlt_graph.specs.Show.{meant};
-ghost use Rattle.melt_run.specs.Ends.{Ends, EndsShow};
+ghost use Rattle.melt_run.specs.Ends.{Ends, EndsRun};
 ghost use Rattle.melt_run.specs.Outcome.{IsWritten, IsCreatedOnce, IsWholeTally, FailsAt, Leaves, Tells, AsksFor, MeetsNoFault, IsDoneOrMemory, IsAccepted, CreatesNothing, Says, CountsRun, KeepsHost};
 ghost use Rattle.melt_run.specs.Prepared.{Meant, loads_on};
 ghost use Rattle.melt_run.specs.Show.{texts};
@@ -58,7 +59,7 @@ fn told<H: Host>(host: &mut H, status: Status) -> Status
 fn played<H: Host>(alloc: Global, show: Show, table: SourceTable, host: &mut H) -> Status
     requires fits { Fits table (tree show.sealed) }
     requires played { IsPlayed (meant show table) }
-    ensures ends { EndsShow (meant show table) result (H.state host.old) (H.state host.new) }
+    ensures ends { EndsRun (played_run (meant show table)) result (H.state host.old) (H.state host.new) }
     ensures counts { CountsRun result (H.state host.old) (H.state host.new) }
     ensures keeps { KeepsHost (H.state host.old) (H.state host.new) }
     ensures nothing { IfMemory result (CreatesNothing (H.state host.old) (H.state host.new)) }
@@ -106,8 +107,8 @@ pub fn melt<R, H: Host, G: Gate>(
     _gate: &G,
 ) -> Status
     // On every host, whatever it tells: no count of faults has risen where all is done, and else the one that the
-    // answer names, that of loads or of a port, with a line that says so; no port was created twice, and none where
-    // nothing was played.
+    // answer names, that of loads or of a port, with a line that says so where the port has one; a port that failed
+    // was created where a frame was taken; no port was created twice, and none where nothing was played.
     ensures counts { CountsRun result (H.state host.old) (H.state host.new) }
     ensures keeps { KeepsHost (H.state host.old) (H.state host.new) }
     ensures untouched { IfRefused result (λ _. CreatesNothing (H.state host.old) (H.state host.new)) }
@@ -135,7 +136,7 @@ pub fn melt<R, H: Host, G: Gate>(
     ensures front { Meant (texts words.now) (H.state host.old) (λ reading. (port : Port) → port ≢ Text →
         Leaves (written reading port) ((H.state host.old).port port) ((H.state host.new).port port)) }
     ensures created { Meant (texts words.now) (H.state host.old) (λ reading. (port : Port) →
-        IsCreatedOnce (written reading port) result ((H.state host.old).creates port) ((H.state host.new).creates port)) }
+        IsCreatedOnce port (written reading port) result ((H.state host.old).creates port) ((H.state host.new).creates port)) }
 
     // The text has got the answer that was asked for, or the line of the run's end; the files were asked for in
     // order, up to the one that can't be read.

@@ -1,9 +1,18 @@
 //! What many words mean, and every call of a host failing in turn.
 
+ghost use Rattle.std.specs.Prelude.{◌≡◌, Err};
+ghost use Rattle.mlt_host.specs.DiskHost.{disk_of, disk_state};
+ghost use Rattle.mlt_host.specs.DiskInMemory.{file_on, mem_disk};
+ghost use Rattle.mlt_tree.specs.Loading as read;
+ghost use Rattle.mlt_tree.specs.Reading.{reading};
+ghost use Rattle.melt_run.specs.Outcome.{IsWholeTally, MeetsNoFault, IsDoneOrMemory, IsAccepted};
+ghost use Rattle.melt_run.specs.Show.{texts};
+ghost use Rattle.melt_run.specs.Status.{IfDone, IfRefused};
+
 use super::*;
-use mlt_base::Port;
+use mlt_base::{Port, PpmFault};
 use mlt_host::disk_in_memory::MemDisk;
-use mlt_host::{DiskHost, MemHost};
+use mlt_host::{Counted, DiskHost, MemHost};
 use mlt_tree::{Cause, Refusal};
 use std::alloc::{AllocError, Global};
 use std::test::Fail;
@@ -187,15 +196,37 @@ fn answers_each_failing_call(rt: HostRuntime) -> Result<(), Fail> {
     Ok(())
 }
 
+/// The program's host over a disk in memory.
+type MemDiskHost = DiskHost<MemDisk, Counted<Vec<u8>>, Counted<Vec<u8>>>;
+
+/// `melt` over such a host. Its disk tells its files, so what the contract says of the meaning of words holds of
+/// words that name files too.
+fn melts_over_a_disk(alloc: Global, words: &[String], host: &mut MemDiskHost) -> Status
+    ensures tally { IfDone result (IsWholeTally (reading (texts words.now) (file_on (disk_of host.old)))) }
+    ensures refused { IfRefused result (λ refusal. reading (texts words.now) (file_on (disk_of host.old)) ≡ Err (read.Refused refusal)) }
+    ensures complete { IsAccepted (reading (texts words.now) (file_on (disk_of host.old))) →
+        MeetsNoFault (disk_state mem_disk host.old) (disk_state mem_disk host.new) → IsDoneOrMemory result }
+{
+    melt(&(), alloc, words, host, &Free)
+}
+
 #[test]
 fn plays_to_a_file_of_a_disk(rt: HostRuntime) -> Result<(), Fail> {
     let alloc = rt.alloc();
-    let disk = MemDisk::new(alloc);
+    let mut disk = MemDisk::new(alloc);
+    disk.add_file("red.ppm", b"P6 1 1 255\n\xff\x00\x00")?;
+    disk.add_file("bad.ppm", b"P6 0 1 255\n")?;
     let mut host = DiskHost::new(disk, Vec::new(alloc), Vec::new(alloc));
-    // The second list of words is refused, and the third is a question: neither opens a file.
-    let rows: [(&str, Status, &[u8], &str); 3] = [
+    // Words that are refused, and a question, open no file to write.
+    let rows: [(&str, Status, &[u8], &str); 5] = [
         (
             "-profile 1x1@25/1 -consumer raw:v colour:red out=1",
+            Status::Done(tally(2)),
+            b"",
+            "",
+        ),
+        (
+            "-profile 1x1@25/1 -consumer raw:v red.ppm out=1",
             Status::Done(tally(2)),
             b"",
             "",
@@ -207,15 +238,21 @@ fn plays_to_a_file_of_a_disk(rt: HostRuntime) -> Result<(), Fail> {
             "melt: word 4: nothing to play\n",
         ),
         (
+            "-consumer raw:w red.ppm bad.ppm",
+            refusal(3, Cause::BadPicture(PpmFault::BadHeader(3))),
+            b"",
+            "melt: word 4: nothing to play\nmelt: word 3: bad picture\n",
+        ),
+        (
             "-version",
             Status::Done(tally(0)),
             b"",
-            "melt: word 4: nothing to play\nmelt 1.0.0\n",
+            "melt: word 4: nothing to play\nmelt: word 3: bad picture\nmelt 1.0.0\n",
         ),
     ];
     for (line, status, output, errors) in rows {
         let words = split(alloc, line)?;
-        let answer = melt(&(), alloc, words.as_slice(), &mut host, &Free);
+        let answer = melts_over_a_disk(alloc, words.as_slice(), &mut host);
         assert_eq!(rt; answer, status, "{line}");
         assert_eq!(rt; host.stdout().as_slice(), output);
         assert_eq!(rt; host.stderr().as_slice(), errors.as_bytes());

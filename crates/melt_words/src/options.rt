@@ -2,7 +2,7 @@
 
 ghost use Rattle.std.specs.Prelude.{◌≡◌, find};
 ghost use Rattle.mlt_tree.specs.Table.{is_named, option_of};
-ghost use Rattle.mlt_tree.specs.Words.{is_option};
+ghost use Rattle.mlt_tree.specs.GroupWords.{is_option};
 
 use mlt_tree::{OPTIONS, Row};
 

@@ -2,7 +2,7 @@
 
 ghost use Rattle.std.specs.Prelude.{◌≡◌, List, map, string_bytes, Ok};
 ghost use Rattle.mlt_base.specs.Try.{TryGives};
-ghost use Rattle.mlt_tree.specs.Words.{begin, finish, free_word, groups, groups_of, option_word, plain_word, property_word, start, step, then_last};
+ghost use Rattle.mlt_tree.specs.Words.{begin, finish, free_word, groups, groups_of, option_word, plain_word, property_word, nothing_read, step, then_last};
 ghost use Rattle.melt_words.specs.View.{last_of, state_of};
 
 use crate::options::{is_option, option_row};
@@ -42,7 +42,7 @@ struct Reading {
 impl Reading {
     /// Before the first word.
     fn new(alloc: Global) -> Reading
-        ensures { state_of result ≡ start }
+        ensures { state_of result ≡ nothing_read }
     {
         Reading {
             alloc,

@@ -1,6 +1,5 @@
 -- Pictures brought to another size, tried on small ones: each line is checked by computing both of its sides.
 use Rattle.std.specs.Prelude.{◌≡◌, [], ◌∷◌, refl}
-use Rattle.mlt_base.specs.Still.{Picture}
 use Rattle.mlt_base.specs.Mixing.{table}
 use Rattle.mlt_base.specs.Fitting.{spot_at, framed, fitted, stretched}
 

@@ -9,7 +9,7 @@ use Rattle.mlt_base.specs.declared.refusal.Try.{Try}
 use Rattle.mlt_base.specs.declared.refusal.Try.TheVariants.{Fault, Memory}
 use Rattle.mlt_base.specs.declared.animation.Key.{Key}
 use Rattle.mlt_base.specs.Steps.{◌>>=◌}
-use Rattle.mlt_base.specs.Try.{Fails}
+use Rattle.mlt_base.specs.Try.{TryFails}
 use Rattle.mlt_base.specs.Animation.{key_at, keys_of, is_skipped, is_semicolon, first_key}
 
 -- keys before, and those that are still read
@@ -75,6 +75,6 @@ fails front last at bytes fault total some h so_far =
 
 -- the fault of the parts behind the first
 pub behind_fails : (e : Try NumFault) (last : Option ℕ) (at : ℕ) (bytes : List ℕ) (key : Key) (place : ℕ) (rest : List ℕ) → 0 < length bytes → first_key last at bytes ≡ Ok (key, place, rest)
-    → Fails e (keys_of (Some key.frame) place (slice_split is_semicolon rest)) → Fails e (keys_of last at (slice_split is_semicolon bytes))
+    → TryFails e (keys_of (Some key.frame) place (slice_split is_semicolon rest)) → TryFails e (keys_of last at (slice_split is_semicolon bytes))
 behind_fails Memory last at bytes key place rest some h fails = tt
 behind_fails (Fault fault) last at bytes key place rest some h fails = keys_of-first last at bytes some ∙ rw (h, fails) refl

@@ -30,5 +30,6 @@ pub mod PpmRows
 pub mod PpmBlanks
 pub mod PpmCounts
 pub mod PpmFields
+pub mod PpmBad
 pub mod PpmHeaders
 pub mod PpmForms

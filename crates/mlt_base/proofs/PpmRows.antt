@@ -36,6 +36,16 @@ no_width : ppm (codes "P6 0") ≡ Err (BadHeader 3)
 unfolding number_at field_at white_at header picture ppm
 no_width = refl
 
+-- a number that isn't allowed stands before the byte at which the header can't go on
+zero_first : ppm (codes "P6 0 x") ≡ Err (BadHeader 3)
+unfolding number_at field_at white_at header picture ppm
+zero_first = refl
+
+-- a large picture is told behind all numbers
+zero_behind_large : ppm (codes "P6 4097 0 255 ") ≡ Err (BadHeader 8)
+unfolding number_at field_at white_at header picture ppm
+zero_behind_large = refl
+
 too_deep : ppm (codes "P6 1 1 65536 ") ≡ Err (BadHeader 7)
 unfolding number_at field_at white_at header picture ppm
 too_deep = refl

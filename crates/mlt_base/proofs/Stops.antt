@@ -14,21 +14,18 @@ use Rattle.mlt_base.proofs.Below.{below_ok}
 
 -- ---- a text leaves a grammar at one place
 
--- no earlier place and a later one
-stops_before : (Good : List ℕ → Type 0) (text : List ℕ) (a b : ℕ) → a < b → StopsAt Good text a → ¬ StopsAt Good text b
-stops_before Good text a b less first second =
-    let (rest, good) = second.before in
-    let k : ℕ = b - (a + 1) in
-    let sum : b ≡ a + 1 + k = omega arith in
-    let split : take b text ++ rest ≡ take (a + 1) text ++ (take k (drop (a + 1) text) ++ rest) = ap (λ (l : List ℕ). l ++ rest) (ap (λ (n : ℕ). take n text) sum ∙ take-add (a + 1) k text) ∙ append_assoc (take (a + 1) text) (take k (drop (a + 1) text)) rest in
-    first.behind (omega (arith, second.within)) (take k (drop (a + 1) text) ++ rest, subst Good split good)
+-- a text doesn't leave a grammar before a place up to which it begins a good text
+pub not_before : (Good : List ℕ → Type 0) (text : List ℕ) (a b : ℕ) → StopsAt Good text a → b ≤ length text → Begins Good (take b text) → b ≤ a
+not_before Good text a b stop within (rest, good) = elim (cases_lt a b) [ inl lt ↦ absurd (stop.behind (omega arith) (take (b - (a + 1)) (drop (a + 1) text) ++ rest, subst Good (split lt) good)) | inr le ↦ le ]
+  where
+    split : a < b → take b text ++ rest ≡ take (a + 1) text ++ (take (b - (a + 1)) (drop (a + 1) text) ++ rest)
+    split lt =
+        let k : ℕ = b - (a + 1) in
+        let sum : b ≡ a + 1 + k = omega arith in
+        ap (λ (l : List ℕ). l ++ rest) (ap (λ (n : ℕ). take n text) sum ∙ take-add (a + 1) k text) ∙ append_assoc (take (a + 1) text) (take k (drop (a + 1) text)) rest
 
 pub stops_once : (Good : List ℕ → Type 0) (text : List ℕ) (a b : ℕ) → StopsAt Good text a → StopsAt Good text b → a ≡ b
-stops_once Good text a b first second =
-    elim (cases_lt a b) [
-      | inl lt ↦ absurd (stops_before Good text a b lt first second)
-      | inr le ↦ elim (cases_lt b a) [ inl lt ↦ absurd (stops_before Good text b a lt second first) | inr ge ↦ omega arith ]
-    ]
+stops_once Good text a b first second = omega (arith, not_before Good text a b first second.within second.before, not_before Good text b a second first.within first.before)
 
 -- behind a front and so many bytes, where each text that goes on with the same byte is bad, which no good one is
 pub stops_from : (Good Bad : List ℕ → Type 0) → ((text : List ℕ) → Good text → ¬ Bad text) → (front rest : List ℕ) (k : ℕ) → k ≤ length rest

@@ -1,6 +1,7 @@
 -- Geometries: `X/Y:WxH` or `X/Y:WxH:O`, in pixels or hundredths of a profile's size.
 use Rattle.std.specs.Prelude.{ℕ, ◌+◌, ◌*◌, ◌/◌, min, max, ℤ, pos, negsuc, neg_ℤ, unsigned_abs, List, [], ◌∷◌, Option, Some, None, Result, Ok, Err, nat_le, if◌then◌else◌}
 use Rattle.mlt_base.specs.declared.fault.NumFault.{NumFault}
+use Rattle.mlt_base.specs.declared.limits.TheConstants.{MOST_HUNDREDTHS, MOST_OFFSET, MOST_OPACITY, MOST_PIXELS}
 use Rattle.mlt_base.specs.Whole.{whole}
 use Rattle.mlt_base.specs.Options.{◌>>=◌}
 use Rattle.mlt_base.specs.SplitOnce.{split_once}
@@ -41,8 +42,8 @@ hundredths size (negsuc n) = neg_ℤ (pos ((n + 1) * size / 100))
 
 -- where a picture begins along a size: in pixels, or in hundredths of the size
 abbrev pub offset_from : ℕ → List ℕ → Option (List ℕ × List ℕ) → Option ℤ
-offset_from size text None = near_zero 16384 text
-offset_from size text (Some (front, [])) = near_zero 1000 front >>= λ n. Some (hundredths size n)
+offset_from size text None = near_zero MOST_OFFSET text
+offset_from size text (Some (front, [])) = near_zero MOST_HUNDREDTHS front >>= λ n. Some (hundredths size n)
 offset_from size text (Some (front, b ∷ rest)) = None
 
 unfoldable pub offset : ℕ → List ℕ → Option ℤ
@@ -50,8 +51,9 @@ offset size text = offset_from size text (split_once 37 text)
 
 -- how far it goes along a size
 abbrev pub extent_from : ℕ → List ℕ → Option (List ℕ × List ℕ) → Option ℕ
-extent_from size text None = counted 1 4096 text
-extent_from size text (Some (front, [])) = counted 1 1000 front >>= λ n. Some (max 1 (min 4096 (n * size / 100)))
+extent_from size text None = counted 1 MOST_PIXELS text
+extent_from size text (Some (front, [])) =
+    counted 1 MOST_HUNDREDTHS front >>= λ n. Some (max 1 (min MOST_PIXELS (n * size / 100)))
 extent_from size text (Some (front, b ∷ rest)) = None
 
 unfoldable pub extent : ℕ → List ℕ → Option ℕ
@@ -81,10 +83,10 @@ area width height text = do
 
 -- W and H with O behind them, which is 100 where nothing is said
 abbrev pub area_from : ℕ → ℕ → List ℕ → Option (List ℕ × List ℕ) → Option (ℕ × ℕ × ℕ)
-area_from width height text None = area width height text >>= λ size. Some (size.0, size.1, 100)
+area_from width height text None = area width height text >>= λ size. Some (size.0, size.1, MOST_OPACITY)
 area_from width height text (Some (front, rest)) = do
   size ← area width height front
-  opacity ← counted 0 100 rest
+  opacity ← counted 0 MOST_OPACITY rest
   Some (size.0, size.1, opacity)
 
 unfoldable pub shape : ℕ → ℕ → List ℕ → Option (ℕ × ℕ × ℕ)

@@ -1,6 +1,7 @@
 -- A geometry of the code, as the definitions see it.
 use Rattle.std.specs.Prelude.{◌≤◌, unsigned_abs}
 use Rattle.mlt_base.specs.declared.geometry.Geometry.{Geometry}
+use Rattle.mlt_base.specs.declared.limits.TheConstants.{MOST_CORNER, MOST_OPACITY, MOST_PIXELS}
 use Rattle.mlt_base.specs.Geometry.{Rectangle}
 
 abbrev pub rectangle_of : Geometry → Rectangle
@@ -11,10 +12,10 @@ geometry_of r = record { x = r.x; y = r.y; width = r.width; height = r.height; o
 
 -- the numbers of a geometry, in their ranges
 pub record IsPlacement (g : Geometry) : Type 0 where
-  pub x_near : unsigned_abs g.x ≤ 40960
-  pub y_near : unsigned_abs g.y ≤ 40960
+  pub x_near : unsigned_abs g.x ≤ MOST_CORNER
+  pub y_near : unsigned_abs g.y ≤ MOST_CORNER
   pub some_width : 1 ≤ g.width
-  pub few_columns : g.width ≤ 4096
+  pub few_columns : g.width ≤ MOST_PIXELS
   pub some_height : 1 ≤ g.height
-  pub few_rows : g.height ≤ 4096
-  pub opacity : g.opacity ≤ 100
+  pub few_rows : g.height ≤ MOST_PIXELS
+  pub opacity : g.opacity ≤ MOST_OPACITY

@@ -1,6 +1,7 @@
 -- Which texts are numbers, times, profiles, geometries and animations, and what they mean, said apart from any reader.
 use Rattle.std.specs.Prelude.{◌≡◌, ℕ, ◌+◌, ◌*◌, ◌/◌, ◌^◌, ◌<◌, ◌≤◌, ◌⊎◌, Bool, true, false, Option, Some, None, min, max, ℤ, pos, neg_ℤ, unsigned_abs, List, [], ◌∷◌, ◌++◌, length}
 use Rattle.std.specs.List.{Any}
+use Rattle.mlt_base.specs.declared.limits.TheConstants.{MOST_HUNDREDTHS, MOST_OF_RATE, MOST_OFFSET, MOST_OPACITY, MOST_PIXELS, MOST_RATE}
 use Rattle.mlt_base.specs.declared.table.TheConstants.{PROFILES}
 use Rattle.mlt_base.specs.Name.{name_of}
 use Rattle.mlt_base.specs.Profile.{Measures, row_measures}
@@ -67,9 +68,11 @@ IsProfile text m =
     × (text ≡ profile_text width height num den)
     × (m ≡ record { width = number width; height = number height; num = number num; den = number den })
 
--- each side is 1 to 4096 pixels, num and den are 1 to 100,000, and the rate is 1 to 1000
+-- each side, the two numbers of the rate and the rate itself are at least 1 and within their limits
 abbrev pub IsWithin : Measures → Type 0
-IsWithin m = (1 ≤ m.width) × (m.width ≤ 4096) × (1 ≤ m.height) × (m.height ≤ 4096) × (1 ≤ m.den) × (m.num ≤ 100000) × (m.den ≤ m.num) × (m.num ≤ 1000 * m.den)
+IsWithin m =
+    (1 ≤ m.width) × (m.width ≤ MOST_PIXELS) × (1 ≤ m.height) × (m.height ≤ MOST_PIXELS)
+    × (1 ≤ m.den) × (m.num ≤ MOST_OF_RATE) × (m.den ≤ m.num) × (m.num ≤ MOST_RATE * m.den)
 
 -- the text is a name of the table, which has these measures
 abbrev pub IsNamed : List ℕ → Measures → Type 0
@@ -80,13 +83,15 @@ IsNamed text m = Any (λ row. (text ≡ name_of row.name) × (m ≡ row_measures
 -- pixels, or hundredths of a size and `%`
 abbrev pub IsOffset : ℕ → List ℕ → ℤ → Type 0
 IsOffset size text at =
-    (IsWhole text at × (unsigned_abs at ≤ 16384))
-    ⊎ ((front : List ℕ) × (n : ℤ) × IsWhole front n × (unsigned_abs n ≤ 1000) × (text ≡ front ++ 37 ∷ []) × (at ≡ hundredths size n))
+    (IsWhole text at × (unsigned_abs at ≤ MOST_OFFSET))
+    ⊎ ((front : List ℕ) × (n : ℤ) × IsWhole front n × (unsigned_abs n ≤ MOST_HUNDREDTHS)
+    × (text ≡ front ++ 37 ∷ []) × (at ≡ hundredths size n))
 
 abbrev pub IsExtent : ℕ → List ℕ → ℕ → Type 0
 IsExtent size text long =
-    (IsWhole text (pos long) × (1 ≤ long) × (long ≤ 4096))
-    ⊎ ((front : List ℕ) × (n : ℕ) × IsWhole front (pos n) × (1 ≤ n) × (n ≤ 1000) × (text ≡ front ++ 37 ∷ []) × (long ≡ max 1 (min 4096 (n * size / 100))))
+    (IsWhole text (pos long) × (1 ≤ long) × (long ≤ MOST_PIXELS))
+    ⊎ ((front : List ℕ) × (n : ℕ) × IsWhole front (pos n) × (1 ≤ n) × (n ≤ MOST_HUNDREDTHS)
+    × (text ≡ front ++ 37 ∷ []) × (long ≡ max 1 (min MOST_PIXELS (n * size / 100))))
 
 -- `X/Y` or `X,Y`
 abbrev pub IsCorner : ℕ → ℕ → List ℕ → Rectangle → Type 0
@@ -101,8 +106,9 @@ IsArea width height text p = (w : List ℕ) × (h : List ℕ) × IsExtent width 
 abbrev pub IsGeometry : ℕ → ℕ → List ℕ → Rectangle → Type 0
 IsGeometry width height text p =
     (corner : List ℕ) × (area : List ℕ) × IsCorner width height corner p × IsArea width height area p
-    × (((text ≡ corner ++ 58 ∷ area) × (p.opacity ≡ 100))
-    ⊎ ((opacity : List ℕ) × IsWhole opacity (pos p.opacity) × (p.opacity ≤ 100) × (text ≡ corner ++ 58 ∷ (area ++ 58 ∷ opacity))))
+    × (((text ≡ corner ++ 58 ∷ area) × (p.opacity ≡ MOST_OPACITY))
+    ⊎ ((opacity : List ℕ) × IsWhole opacity (pos p.opacity) × (p.opacity ≤ MOST_OPACITY)
+    × (text ≡ corner ++ 58 ∷ (area ++ 58 ∷ opacity))))
 
 -- ---- animations
 

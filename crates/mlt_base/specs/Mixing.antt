@@ -10,14 +10,14 @@ table n f = map f (range_with_len 0 n)
 -- ---- dissolving
 
 -- q parts in 65536 of z and the rest of x, to the nearest whole number
-abbrev pub mixed : ℕ → ℕ → ℕ → ℕ
-mixed q x z = (x * (65536 - q) + z * q + 32768) / 65536
+abbrev pub blended : ℕ → ℕ → ℕ → ℕ
+blended q x z = (x * (65536 - q) + z * q + 32768) / 65536
 
 -- byte k of a picture dissolved into another by q
 abbrev pub dissolved : ℕ → List ℕ → List ℕ → ℕ → ℕ
-dissolved q xs zs k = mixed q (slice_index xs k) (slice_index zs k)
+dissolved q xs zs k = blended q (slice_index xs k) (slice_index zs k)
 
--- ---- brightness
+-- ---- levels and lightness
 
 -- a colour at a level, of which 65536 leaves it as it is; 255 is the most
 abbrev pub lit : ℕ → ℕ → ℕ
@@ -27,9 +27,9 @@ lit level c = min 255 ((c * level + 32768) / 65536)
 abbrev pub scaled : ℕ → List ℕ → ℕ → ℕ
 scaled level xs k = if k % 4 == 3 then slice_index xs k else lit level (slice_index xs k)
 
--- the brightness of a colour
-abbrev pub luma : ℕ → ℕ → ℕ → ℕ
-luma r g b = (77 * r + 150 * g + 29 * b) / 256
+-- the lightness of a colour, 0 to 255
+abbrev pub lightness : ℕ → ℕ → ℕ → ℕ
+lightness r g b = (77 * r + 150 * g + 29 * b) / 256
 
 -- ---- laying over
 

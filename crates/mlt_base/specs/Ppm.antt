@@ -3,11 +3,12 @@ use Rattle.std.specs.Prelude.{◌≡◌, ℕ, ◌+◌, ◌*◌, ◌/◌, ◌%◌
 use Rattle.std.specs.List.{concat, starts_with}
 use Rattle.mlt_base.specs.declared.fault.PpmFault.{PpmFault}
 use Rattle.mlt_base.specs.declared.fault.PpmFault.TheVariants.{NotP6, BadHeader, TooLarge, Short}
-use Rattle.mlt_base.specs.declared.limits.TheConstants.{MOST_PIXELS}
+use Rattle.mlt_base.specs.declared.limits.TheConstants.{MOST_PIXELS, MOST_SAMPLE}
 use Rattle.mlt_base.specs.Mixing.{table}
 use Rattle.mlt_base.specs.Still.{Picture}
 use Rattle.mlt_base.specs.Reading.{IsNumeral, digit_count, number}
 use Rattle.mlt_base.specs.Steps.{◌>>=◌}
+use Rattle.mlt_base.specs.Stop.{StopsAt}
 
 -- ---- bytes between the numbers of a header
 
@@ -85,17 +86,21 @@ IsText Rest text =
     × IsField (λ width. IsField (λ height. IsField (λ maxval. IsRaster (Rest width height maxval)))) fields
     × (text ≡ 80 ∷ 54 ∷ fields)
 
+-- the text begins with `P6`
+abbrev pub IsP6 : List ℕ → Type 0
+IsP6 text = (fields : List ℕ) × (text ≡ 80 ∷ 54 ∷ fields)
+
 -- the text has a header, whatever its numbers and its raster are
 abbrev pub HasHeader : List ℕ → Type 0
 HasHeader text = IsText (λ width height maxval raster. Unit {0}) text
 
--- a width or a height has to be at least 1
+-- a width or a height of a header has to be at least 1
 abbrev pub IsSide : ℕ → Type 0
 IsSide n = 1 ≤ n
 
--- and a maxval 1 to 65535
+-- and a maxval, the greatest sample, 1 to 65535
 abbrev pub IsDepth : ℕ → Type 0
-IsDepth n = (1 ≤ n) × (n ≤ 65535)
+IsDepth n = (1 ≤ n) × (n ≤ MOST_SAMPLE)
 
 -- the raster has all samples of a picture
 abbrev pub IsRasterOf : Picture → ℕ → ℕ → ℕ → List ℕ → Type 0
@@ -116,14 +121,18 @@ AreNumbers width height maxval = IsSide width × IsSide height × IsDepth maxval
 
 -- the picture has too many pixels in a row, or too many rows
 abbrev pub IsLarge : List ℕ → Type 0
-IsLarge text = IsText (λ width height maxval raster. AreNumbers width height maxval × ((MOST_PIXELS < width) ⊎ (MOST_PIXELS < height))) text
+IsLarge text =
+    IsText (λ width height maxval raster. AreNumbers width height maxval
+    × ((MOST_PIXELS < width) ⊎ (MOST_PIXELS < height))) text
 
--- the raster has fewer bytes than its samples need
+-- the picture isn't too large, and its raster has fewer bytes than its samples need
 abbrev pub IsShort : List ℕ → ℕ → ℕ → Type 0
 IsShort text have need =
-    IsText (λ width height maxval raster. AreNumbers width height maxval × (have ≡ length raster) × (need ≡ needed maxval (width * height)) × (have < need)) text
+    IsText (λ width height maxval raster. AreNumbers width height maxval
+    × (width ≤ MOST_PIXELS) × (height ≤ MOST_PIXELS)
+    × (have ≡ length raster) × (need ≡ needed maxval (width * height)) × (have < need)) text
 
--- ---- numbers of a header that are out of range
+-- ---- numbers of a header that aren't allowed
 
 -- behind a separator stands a number that isn't allowed, with its first digit at this place
 abbrev pub IsBad : (ℕ → Type 0) → List ℕ → ℕ → Type 0
@@ -132,19 +141,23 @@ IsBad Allowed text at =
     × IsSeparator separator × IsNumeral digits × (digit_count rest ≡ 0) × ¬ Allowed (number digits)
     × (text ≡ separator ++ (digits ++ rest)) × (at ≡ length separator)
 
--- behind a separator stands a number that is allowed, and behind that such a place
-abbrev pub IsBehind : (ℕ → Type 0) → (List ℕ → ℕ → Type 0) → List ℕ → ℕ → Type 0
-IsBehind Allowed There text at =
+-- behind a separator and a number stands such a place
+abbrev pub IsBehind : (List ℕ → ℕ → Type 0) → List ℕ → ℕ → Type 0
+IsBehind There text at =
     (separator : List ℕ) × (digits : List ℕ) × (rest : List ℕ) × (k : ℕ)
-    × IsSeparator separator × IsNumeral digits × Allowed (number digits) × There rest k
+    × IsSeparator separator × IsNumeral digits × There rest k
     × (text ≡ separator ++ (digits ++ rest)) × (at ≡ length separator + (length digits + k))
 
--- the place of a header's first number that isn't allowed
+-- the place of a width, a height or a maxval that isn't allowed
 abbrev pub IsBadNumber : List ℕ → ℕ → Type 0
 IsBadNumber text at =
     (fields : List ℕ) × (k : ℕ)
-    × (IsBad IsSide fields k ⊎ (IsBehind IsSide (IsBad IsSide) fields k ⊎ IsBehind IsSide (IsBehind IsSide (IsBad IsDepth)) fields k))
+    × (IsBad IsSide fields k ⊎ (IsBehind (IsBad IsSide) fields k ⊎ IsBehind (IsBehind (IsBad IsDepth)) fields k))
     × (text ≡ 80 ∷ 54 ∷ fields) × (at ≡ 2 + k)
+
+-- a place where a header is bad: it can't go on there, or there is a number that isn't allowed
+abbrev pub IsFaulty : List ℕ → ℕ → Type 0
+IsFaulty text at = StopsAt HasHeader text at ⊎ IsBadNumber text at
 
 -- ---- reading: the picture, or the first fault
 
@@ -157,19 +170,25 @@ blank_count false (b ∷ bytes) =
     else if is_white b then blank_count false bytes + 1
     else 0
 
--- one or more digits that begin at a place, a number from 1 to a limit: the number, held to 65536, which is above
--- every limit, and the place behind it
-unfoldable pub number_at : ℕ → ℕ → List ℕ → Result (ℕ × ℕ) PpmFault
-number_at limit at bytes =
+-- whether a number may be a width or a height of a header, and whether it may be a maxval
+abbrev pub is_side : ℕ → Bool
+is_side n = nat_le 1 n
+
+abbrev pub is_depth : ℕ → Bool
+is_depth n = nat_le 1 n && nat_le n MOST_SAMPLE
+
+-- one or more digits that begin at a place, a number that is allowed: the number, and the place behind it
+unfoldable pub number_at : (ℕ → Bool) → ℕ → List ℕ → Result (ℕ × ℕ) PpmFault
+number_at allowed at bytes =
     let count = digit_count bytes in
-    let value = min (number (take count bytes)) 65536 in
-    if count == 0 || value == 0 || nat_lt limit value then Err (BadHeader at) else Ok (value, at + count)
+    let value = number (take count bytes) in
+    if count == 0 || not (allowed value) then Err (BadHeader at) else Ok (value, at + count)
 
 -- a separator from a place on, and such a number behind it
-unfoldable pub field_at : ℕ → ℕ → List ℕ → Result (ℕ × ℕ) PpmFault
-field_at limit at bytes =
+unfoldable pub field_at : (ℕ → Bool) → ℕ → List ℕ → Result (ℕ × ℕ) PpmFault
+field_at allowed at bytes =
     let count = blank_count false bytes in
-    if count == 0 then Err (BadHeader at) else number_at limit (at + count) (drop count bytes)
+    if count == 0 then Err (BadHeader at) else number_at allowed (at + count) (drop count bytes)
 
 -- one byte of white space
 unfoldable pub white_at : ℕ → List ℕ → Result (Unit {0}) PpmFault
@@ -186,9 +205,9 @@ pub record Numbers : Type 0 where
 -- the numbers behind `P6`; how large a picture may be is no matter of its header
 unfoldable pub header : List ℕ → Result Numbers PpmFault
 header text = do
-  width ← field_at 65536 2 (drop 2 text)
-  height ← field_at 65536 width.1 (drop width.1 text)
-  maxval ← field_at 65535 height.1 (drop height.1 text)
+  width ← field_at is_side 2 (drop 2 text)
+  height ← field_at is_side width.1 (drop width.1 text)
+  maxval ← field_at is_depth height.1 (drop height.1 text)
   white ← white_at maxval.1 (drop maxval.1 text)
   Ok (record { width = width.0; height = height.0; maxval = maxval.0; end = maxval.1 + 1 })
 

@@ -17,6 +17,9 @@ pub record Measures : Type 0 where
   pub num : ℕ
   pub den : ℕ
 
+abbrev pub measures : ℕ → ℕ → ℕ → ℕ → Measures
+measures width height num den = record { width = width; height = height; num = num; den = den }
+
 abbrev pub row_measures : NamedProfile → Measures
 row_measures row = record { width = row.width; height = row.height; num = row.num; den = row.den }
 
@@ -25,7 +28,7 @@ row_measures row = record { width = row.width; height = row.height; num = row.nu
 abbrev pub is_size : ℕ → Bool
 is_size n = nat_le 1 n && nat_le n MOST_PIXELS
 
--- 1 to 1000 frames a second
+-- at least one frame a second, and at most as many as the limit says
 abbrev pub is_rate : ℕ → ℕ → Bool
 is_rate num den = nat_le 1 den && nat_le num MOST_OF_RATE && nat_le den num && nat_le num (MOST_RATE * den)
 

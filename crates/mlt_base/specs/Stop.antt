@@ -16,3 +16,7 @@ pub record StopsAt (Good : List ℕ → Type 0) (text : List ℕ) (at : ℕ) : T
   pub before : Begins Good (take at text)
   pub behind : at < length text → ¬ Begins Good (take (at + 1) text)
   pub unfinished : ¬ Good text
+
+-- the first place of which this is said
+abbrev pub First : (ℕ → Type 0) → ℕ → Type 0
+First Says at = Says at × ((k : ℕ) → Says k → at ≤ k)

@@ -10,7 +10,7 @@ form_view (parts.Clock hours minutes seconds fraction) = Clock hours.now minutes
 form_view (parts.Counted hours minutes seconds frames) = Counted hours.now minutes.now seconds.now frames.now
 
 -- a fraction has at most three digits
-abbrev pub IsShort : Form → Type 0
-IsShort (Frames frames) = Unit {0}
-IsShort (Clock hours minutes seconds fraction) = length fraction ≤ 3
-IsShort (Counted hours minutes seconds frames) = Unit {0}
+abbrev pub HasShortFraction : Form → Type 0
+HasShortFraction (Frames frames) = Unit {0}
+HasShortFraction (Clock hours minutes seconds fraction) = length fraction ≤ 3
+HasShortFraction (Counted hours minutes seconds frames) = Unit {0}

@@ -2,9 +2,11 @@
 
 ghost use Rattle.std.specs.Prelude.{◌≡◌, ℕ, ◌≤◌, ℤ, Option, IfSome, unsigned_abs};
 ghost use Rattle.std.specs.Option.{option_map};
+ghost use Rattle.mlt_base.specs.declared.limits.TheConstants.{MOST_CORNER, MOST_HUNDREDTHS, MOST_OFFSET, MOST_OPACITY, MOST_PIXELS};
 ghost use Rattle.mlt_base.specs.SplitOnce.{split_once};
 ghost use Rattle.mlt_base.specs.Geometry.{near_zero, counted, hundredths, offset_from, offset, extent_from, extent, corner_cut, corner, area, area_from, shape, geometry};
 
+use crate::limits::{MOST_HUNDREDTHS, MOST_OFFSET, MOST_OPACITY, MOST_PIXELS};
 use crate::profile::Profile;
 use crate::reading::split_once;
 use crate::whole::whole_of;
@@ -12,7 +14,7 @@ use crate::whole::whole_of;
 /// Where a picture goes in a frame: its left upper corner and its size, in pixels, and its opacity in
 /// hundredths, 0 to 100.
 ///
-/// The corner may lie outside the frame, up to 40960 pixels from its left or upper edge. Width and
+/// The corner may lie outside the frame, up to 40,960 pixels from its left or upper edge. Width and
 /// height are 1 to 4096. A call that is handed one asks for these ranges (`IsPlacement` in
 /// `specs/GeometryView`).
 #[derive(Clone, Copy, Debug)]
@@ -27,7 +29,7 @@ pub struct Geometry {
 /// A whole number at most so far from 0.
 #[tactic(auto, unfolding(crate::specs::Geometry::near_zero))]
 fn near_zero(limit: u32, text: &[u8]) -> Option<i32>
-    requires { limit ≤ 16384 }
+    requires { limit ≤ MOST_OFFSET }
     ensures value { result ≡ near_zero limit text.now }
     ensures near { IfSome result (λ n. unsigned_abs n ≤ limit) }
 {
@@ -40,7 +42,7 @@ fn near_zero(limit: u32, text: &[u8]) -> Option<i32>
 /// A whole number from low to high.
 #[tactic(auto, unfolding(crate::specs::Geometry::counted))]
 fn counted(low: u32, high: u32, text: &[u8]) -> Option<u32>
-    requires { high ≤ 16384 }
+    requires { high ≤ MOST_OFFSET }
     ensures value { result ≡ counted low high text.now }
     ensures from { IfSome result (λ n. low ≤ n) }
     ensures to { IfSome result (λ n. n ≤ high) }
@@ -55,10 +57,10 @@ fn counted(low: u32, high: u32, text: &[u8]) -> Option<u32>
 
 /// Hundredths of a size, rounded towards 0.
 fn hundredths(size: u32, n: i32) -> i32
-    requires small { unsigned_abs n ≤ 1000 }
-    requires sized { size ≤ 4096 }
+    requires small { unsigned_abs n ≤ MOST_HUNDREDTHS }
+    requires sized { size ≤ MOST_PIXELS }
     ensures value { result ≡ hundredths size n }
-    ensures near { unsigned_abs result ≤ 40960 }
+    ensures near { unsigned_abs result ≤ MOST_CORNER }
 {
     let pixels = (n.unsigned_abs() * size / 100) as i32;
     if n < 0 { -pixels } else { pixels }
@@ -67,13 +69,13 @@ fn hundredths(size: u32, n: i32) -> i32
 /// Where a picture begins along a size: in pixels, or in hundredths of the size.
 #[tactic(auto, unfolding(crate::specs::Geometry::offset))]
 fn offset(size: u32, text: &[u8]) -> Option<i32>
-    requires { size ≤ 4096 }
+    requires { size ≤ MOST_PIXELS }
     ensures value { result ≡ offset size text.now }
-    ensures near { IfSome result (λ n. unsigned_abs n ≤ 40960) }
+    ensures near { IfSome result (λ n. unsigned_abs n ≤ MOST_CORNER) }
 {
     match split_once(b'%', text) {
-        None => near_zero(16384, text),
-        Some((front, [])) => Some(hundredths(size, near_zero(1000, front)?)),
+        None => near_zero(MOST_OFFSET, text),
+        Some((front, [])) => Some(hundredths(size, near_zero(MOST_HUNDREDTHS, front)?)),
         Some(_) => None,
     }
 }
@@ -81,14 +83,18 @@ fn offset(size: u32, text: &[u8]) -> Option<i32>
 /// How far a picture goes along a size: in pixels, or in hundredths of the size.
 #[tactic(auto, unfolding(crate::specs::Geometry::extent))]
 fn extent(size: u32, text: &[u8]) -> Option<u32>
-    requires { size ≤ 4096 }
+    requires { size ≤ MOST_PIXELS }
     ensures value { result ≡ extent size text.now }
     ensures from { IfSome result (λ n. 1 ≤ n) }
-    ensures to { IfSome result (λ n. n ≤ 4096) }
+    ensures to { IfSome result (λ n. n ≤ MOST_PIXELS) }
 {
     match split_once(b'%', text) {
-        None => counted(1, 4096, text),
-        Some((front, [])) => Some((counted(1, 1000, front)? * size / 100).min(4096).max(1)),
+        None => counted(1, MOST_PIXELS, text),
+        Some((front, [])) => Some(
+            (counted(1, MOST_HUNDREDTHS, front)? * size / 100)
+                .min(MOST_PIXELS)
+                .max(1),
+        ),
         Some(_) => None,
     }
 }
@@ -106,11 +112,11 @@ fn corner_cut(text: &[u8]) -> Option<(&[u8], &[u8])>
 /// X and Y.
 #[tactic(auto, unfolding(crate::specs::Geometry::corner))]
 fn corner(width: u32, height: u32, text: &[u8]) -> Option<(i32, i32)>
-    requires width { width ≤ 4096 }
-    requires height { height ≤ 4096 }
+    requires width { width ≤ MOST_PIXELS }
+    requires height { height ≤ MOST_PIXELS }
     ensures value { result ≡ corner width height text.now }
-    ensures x { IfSome result (λ n. unsigned_abs n.0 ≤ 40960) }
-    ensures y { IfSome result (λ n. unsigned_abs n.1 ≤ 40960) }
+    ensures x { IfSome result (λ n. unsigned_abs n.0 ≤ MOST_CORNER) }
+    ensures y { IfSome result (λ n. unsigned_abs n.1 ≤ MOST_CORNER) }
 {
     let (x, y) = corner_cut(text)?;
     Some((offset(width, x)?, offset(height, y)?))
@@ -119,11 +125,11 @@ fn corner(width: u32, height: u32, text: &[u8]) -> Option<(i32, i32)>
 /// W and H.
 #[tactic(auto, unfolding(crate::specs::Geometry::area))]
 fn area(width: u32, height: u32, text: &[u8]) -> Option<(u32, u32)>
-    requires width { width ≤ 4096 }
-    requires height { height ≤ 4096 }
+    requires width { width ≤ MOST_PIXELS }
+    requires height { height ≤ MOST_PIXELS }
     ensures value { result ≡ area width height text.now }
     ensures from { IfSome result (λ n. (1 ≤ n.0) × (1 ≤ n.1)) }
-    ensures to { IfSome result (λ n. (n.0 ≤ 4096) × (n.1 ≤ 4096)) }
+    ensures to { IfSome result (λ n. (n.0 ≤ MOST_PIXELS) × (n.1 ≤ MOST_PIXELS)) }
 {
     let (w, h) = split_once(b'x', text)?;
     Some((extent(width, w)?, extent(height, h)?))
@@ -132,20 +138,20 @@ fn area(width: u32, height: u32, text: &[u8]) -> Option<(u32, u32)>
 /// W, H and O, which is 100 where nothing is said.
 #[tactic(auto, unfolding(crate::specs::Geometry::shape))]
 fn shape(width: u32, height: u32, text: &[u8]) -> Option<(u32, u32, u32)>
-    requires width { width ≤ 4096 }
-    requires height { height ≤ 4096 }
+    requires width { width ≤ MOST_PIXELS }
+    requires height { height ≤ MOST_PIXELS }
     ensures value { result ≡ shape width height text.now }
     ensures from { IfSome result (λ n. (1 ≤ n.0) × (1 ≤ n.1)) }
-    ensures to { IfSome result (λ n. (n.0 ≤ 4096) × (n.1 ≤ 4096) × (n.2 ≤ 100)) }
+    ensures to { IfSome result (λ n. (n.0 ≤ MOST_PIXELS) × (n.1 ≤ MOST_PIXELS) × (n.2 ≤ MOST_OPACITY)) }
 {
     match split_once(b':', text) {
         None => {
             let (w, h) = area(width, height, text)?;
-            Some((w, h, 100))
+            Some((w, h, MOST_OPACITY))
         }
         Some((size, rest)) => {
             let (w, h) = area(width, height, size)?;
-            Some((w, h, counted(0, 100, rest)?))
+            Some((w, h, counted(0, MOST_OPACITY, rest)?))
         }
     }
 }

@@ -1,27 +1,61 @@
-//! What the readers of numbers and pictures accept, in the words of the grammars: laws that hold of
-//! every text.
+//! What the limits are, and what the readers of numbers and pictures accept, in the words of the grammars:
+//! laws that hold of every text.
 //!
 //! Each function here does nothing; its contract is the law, over the definitions that the readers
 //! meet exactly.
 
-ghost use Rattle.std.specs.Prelude.{◌≡◌, ◌≢◌, ℕ, ◌^◌, ◌<◌, ◌≤◌, ◌⊎◌, ◌↔◌, ℤ, FitsSigned, List, [], ◌∷◌, ◌++◌, length, Some, None, Ok, Err};
+ghost use Rattle.std.specs.Prelude.{◌≡◌, ◌≢◌, ℕ, ◌+◌, ◌*◌, ◌/◌, ◌^◌, ◌<◌, ◌≤◌, ◌⊎◌, ◌↔◌, ℤ, FitsSigned, List, [], ◌∷◌, ◌++◌, length, map, codes, Some, None, Ok, Err};
 ghost use Rattle.std.specs.Int.{w64};
 ghost use Rattle.std.specs.List.{All};
 ghost use Rattle.mlt_base.specs.declared.fault.NumFault.TheVariants.{Empty, BadDigit, TooLarge, Order, Smooth};
 ghost use Rattle.mlt_base.specs.declared.fault.PpmFault.TheVariants as picture;
+ghost use Rattle.mlt_base.specs.declared.limits.TheConstants.{MOST_BYTES, MOST_CORNER, MOST_DEPTH, MOST_ENTRIES, MOST_FRAMES, MOST_HUNDREDTHS, MOST_OF_RATE, MOST_OFFSET, MOST_OPACITY, MOST_PIXELS, MOST_RATE, MOST_SAMPLE, MOST_TRACKS, MOST_WEIGHT, MOST_WORDS, MOST_WRITTEN, OWN_LENGTH};
 ghost use Rattle.mlt_base.specs.Whole.{whole};
 ghost use Rattle.mlt_base.specs.Decimal.{decimal};
 ghost use Rattle.mlt_base.specs.Time.{Form, frames_of, time};
 ghost use Rattle.mlt_base.specs.declared.animation.Key.{Key};
 ghost use Rattle.mlt_base.specs.Animation.{Rises, between, value_at, animation};
-ghost use Rattle.mlt_base.specs.declared.table.TheConstants.{PROFILES};
+ghost use Rattle.mlt_base.specs.declared.table.TheConstants.{DV_PAL, PROFILES};
 ghost use Rattle.mlt_base.specs.Name.{name_of};
-ghost use Rattle.mlt_base.specs.Profile.{Measures, row_measures, profile};
+ghost use Rattle.mlt_base.specs.Profile.{Measures, measures, row_measures, profile};
 ghost use Rattle.mlt_base.specs.Geometry.{Rectangle, geometry};
 ghost use Rattle.mlt_base.specs.Still.{Picture};
-ghost use Rattle.mlt_base.specs.Stop.{Texts, StopsAt};
-ghost use Rattle.mlt_base.specs.Ppm.{HasHeader, IsPpm, IsLarge, IsShort, IsBadNumber, ppm};
+ghost use Rattle.mlt_base.specs.Stop.{Texts, StopsAt, First};
+ghost use Rattle.mlt_base.specs.Ppm.{IsP6, HasHeader, IsPpm, IsLarge, IsShort, IsFaulty, ppm};
 ghost use Rattle.mlt_base.specs.Grammar.{IsWhole, IsDecimal, IsTime, IsNamed, IsProfile, IsWithin, IsGeometry, IsAnimation, AreHeld, HasEquals, IsBadAt, IsUnordered, IsSmooth, HasValue, HasLarge, HasOther};
+
+/// The limits, each as a number.
+pub fn limits()
+    ensures words { MOST_WORDS ≡ 10000 }
+    ensures entries { MOST_ENTRIES ≡ 100000 }
+    ensures frames { MOST_FRAMES + 1 ≡ 2 ^ 31 }
+    ensures tracks { MOST_TRACKS ≡ 256 }
+    ensures depth { MOST_DEPTH ≡ 16 }
+    ensures weight { MOST_WEIGHT ≡ 65536 }
+    ensures written { MOST_WRITTEN ≡ 1000000 }
+    ensures bytes { MOST_BYTES ≡ 2 ^ 31 }
+    ensures pixels { MOST_PIXELS ≡ 4096 }
+    ensures of_rate { MOST_OF_RATE ≡ 100000 }
+    ensures rate { MOST_RATE ≡ 1000 }
+    ensures offset { MOST_OFFSET ≡ 16384 }
+    ensures hundredths { MOST_HUNDREDTHS ≡ 1000 }
+    ensures corner { MOST_CORNER ≡ MOST_HUNDREDTHS * MOST_PIXELS / 100 }
+    ensures opacity { MOST_OPACITY ≡ 100 }
+    ensures sample { MOST_SAMPLE ≡ 65535 }
+    ensures own_length { OWN_LENGTH ≡ 15000 }
+{}
+
+/// The profiles that have names: what each name means, in which order they are listed, and which is meant where none
+/// is named.
+pub fn profile_table()
+    ensures pal { profile (codes "dv_pal") ≡ Some (measures 720 576 25 1) }
+    ensures ntsc { profile (codes "dv_ntsc") ≡ Some (measures 720 480 30000 1001) }
+    ensures rows_720 { profile (codes "atsc_720p_25") ≡ Some (measures 1280 720 25 1) }
+    ensures rows_1080 { profile (codes "atsc_1080p_25") ≡ Some (measures 1920 1080 25 1) }
+    ensures order { map (λ row. name_of row.name) PROFILES
+        ≡ codes "dv_pal" ∷ codes "dv_ntsc" ∷ codes "atsc_720p_25" ∷ codes "atsc_1080p_25" ∷ [] }
+    ensures unnamed { row_measures DV_PAL ≡ measures 720 576 25 1 }
+{}
 
 /// Exactly the whole numbers that fit are read, each as itself; the others are too large.
 pub fn whole_numbers()
@@ -117,12 +151,12 @@ pub fn pictures()
     ensures only { (text : List ℕ) (p : Picture) → ppm text ≡ Ok p → IsPpm text p }
 {}
 
-/// What each fault of a file of a picture says. A bad header is told by the place where it can't go on,
-/// of which a file has at most one, or by the first digit of a number that is out of range.
+/// What each fault of a file of a picture says. A bad header is told by the first place, in byte order, where it can't
+/// go on, or where a number begins that isn't allowed; of the former a file has at most one.
 pub fn picture_faults()
-    ensures not_p6 { (text fields : List ℕ) → ppm text ≡ Err picture.NotP6 → text ≢ 80 ∷ 54 ∷ fields }
-    ensures bad_header { (text : List ℕ) (at : ℕ) → ppm text ≡ Err (picture.BadHeader at) → StopsAt HasHeader text at ⊎ IsBadNumber text at }
+    ensures not_p6 { (text : List ℕ) → ppm text ≡ Err picture.NotP6 ↔ ¬ IsP6 text }
+    ensures bad_header { (text : List ℕ) (at : ℕ) → ppm text ≡ Err (picture.BadHeader at) ↔ (IsP6 text × First (IsFaulty text) at) }
     ensures one_stop { (text : List ℕ) (a b : ℕ) → StopsAt HasHeader text a → StopsAt HasHeader text b → a ≡ b }
-    ensures too_large { (text : List ℕ) → ppm text ≡ Err picture.TooLarge → IsLarge text }
-    ensures short { (text : List ℕ) (have need : ℕ) → ppm text ≡ Err (picture.Short have need) → IsShort text have need }
+    ensures too_large { (text : List ℕ) → ppm text ≡ Err picture.TooLarge ↔ IsLarge text }
+    ensures short { (text : List ℕ) (have need : ℕ) → ppm text ≡ Err (picture.Short have need) ↔ IsShort text have need }
 {}

@@ -25,7 +25,7 @@ pub const MOST_WRITTEN: u32 = 1_000_000;
 /// Bytes that a run holds.
 pub const MOST_BYTES: u64 = 2_147_483_648;
 
-/// Pixels of a width or a height.
+/// Pixels of a width or a height, of a profile, of a picture and of a geometry.
 pub const MOST_PIXELS: u32 = 4096;
 
 /// Each of the two numbers of a frame rate.
@@ -33,6 +33,21 @@ pub const MOST_OF_RATE: u32 = 100_000;
 
 /// Frames a second.
 pub const MOST_RATE: u32 = 1000;
+
+/// Pixels from a frame's left or upper edge to the corner of a geometry, either way, where it is given in pixels.
+pub const MOST_OFFSET: u32 = 16_384;
+
+/// Hundredths of a frame's size in a geometry, either way for its corner.
+pub const MOST_HUNDREDTHS: u32 = 1000;
+
+/// Pixels from a frame's left or upper edge to the corner of any geometry, either way.
+pub const MOST_CORNER: u32 = 40_960;
+
+/// Hundredths of an opacity, which is then whole.
+pub const MOST_OPACITY: u32 = 100;
+
+/// The greatest sample that a PPM picture may name.
+pub const MOST_SAMPLE: u32 = 65_535;
 
 /// Frames of a source that has no length of its own.
 pub const OWN_LENGTH: u32 = 15_000;

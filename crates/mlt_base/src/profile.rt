@@ -1,6 +1,7 @@
 //! Positions, and the size and rate of the frames of a run.
 
 ghost use Rattle.std.specs.Prelude.{ℕ, ◌*◌, ◌≤◌};
+ghost use Rattle.mlt_base.specs.declared.limits.TheConstants.{MOST_OF_RATE, MOST_PIXELS, MOST_RATE};
 
 /// The number of a frame, counted from 0.
 #[derive(Clone, Copy, Debug, PartialEq, Eq, PartialOrd, Ord)]
@@ -18,9 +19,9 @@ pub struct Rate {
     pub num: u32,
     pub den: u32,
     pub ghost den_at_least_one: { 1 ≤ den },
-    pub ghost num_at_most: { num ≤ 100000 },
+    pub ghost num_at_most: { num ≤ MOST_OF_RATE },
     pub ghost rate_at_least_one: { den ≤ num },
-    pub ghost rate_at_most_thousand: { num ≤ 1000 * den },
+    pub ghost rate_at_most_thousand: { num ≤ MOST_RATE * den },
 }
 
 /// The size and rate of the frames of a run. All profiles are progressive with square pixels.
@@ -32,7 +33,7 @@ pub struct Profile {
     pub height: u32,
     pub rate: Rate,
     pub ghost width_at_least_one: { 1 ≤ width },
-    pub ghost width_at_most: { width ≤ 4096 },
+    pub ghost width_at_most: { width ≤ MOST_PIXELS },
     pub ghost height_at_least_one: { 1 ≤ height },
-    pub ghost height_at_most: { height ≤ 4096 },
+    pub ghost height_at_most: { height ≤ MOST_PIXELS },
 }

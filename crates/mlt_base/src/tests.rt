@@ -126,6 +126,50 @@ fn animation_rows(rt: HostRuntime) {
     }
 }
 
+/// Each fault of each reader, once.
+#[test]
+fn each_fault_is_told(rt: HostRuntime) {
+    let whole = [
+        ("", NumFault::Empty),
+        ("12x", NumFault::BadDigit(2)),
+        ("9223372036854775808", NumFault::TooLarge),
+    ];
+    for (text, wanted) in whole {
+        assert_eq!(rt; read_whole(text), Err(wanted), "{text}");
+    }
+    let decimals = [
+        ("", NumFault::Empty),
+        ("0.5x", NumFault::BadDigit(3)),
+        ("65536", NumFault::TooLarge),
+    ];
+    for (text, wanted) in decimals {
+        assert_eq!(rt; read_decimal(text), Err(wanted), "{text}");
+    }
+    let rate = Rate { num: 25, den: 1 };
+    let times = [
+        ("", NumFault::Empty),
+        ("00:00:0x", NumFault::BadDigit(7)),
+        ("2147483648", NumFault::TooLarge),
+    ];
+    for (text, wanted) in times {
+        assert!(rt; read_time(text, rate) == Err(wanted), "{text}");
+    }
+    let animations = [
+        ("", NumFault::Empty),
+        ("0=1;x", NumFault::BadDigit(4)),
+        ("0=65536", NumFault::TooLarge),
+        ("5=1;5=0", NumFault::Order(4)),
+        ("0~=1", NumFault::Smooth(1)),
+    ];
+    for (text, wanted) in animations {
+        let read = match Animation::read(rt.alloc(), text) {
+            Ok(_) => Ok(()),
+            Err(refusal) => Err(refusal),
+        };
+        assert_eq!(rt; read, Err(Try::Fault(wanted)), "{text}");
+    }
+}
+
 #[test]
 fn geometry_rows(rt: HostRuntime) -> Result<(), Fail> {
     let rows = [

@@ -4,7 +4,7 @@ ghost use Rattle.std.specs.Prelude.{◌≡◌, ℕ, ◌+◌, ◌^◌, ◌-◌, �
 ghost use Rattle.mlt_base.specs.Reading.{number, below};
 ghost use Rattle.mlt_base.specs.Try.{Gives};
 ghost use Rattle.mlt_base.specs.Time.{seconds_of, milliseconds_of, frames_a_second, frames_of, last_digits, fraction_digits, behind_seconds, behind_hours, behind_first, form_of, time, Clock, Counted};
-ghost use Rattle.mlt_base.specs.TimeParts.{form_view, IsShort};
+ghost use Rattle.mlt_base.specs.TimeParts.{form_view, HasShortFraction};
 
 use crate::fault::NumFault;
 use crate::profile::{Pos, Rate};
@@ -65,7 +65,7 @@ fn behind_seconds<'a>(
 ) -> Result<Form<'a>, NumFault>
     requires { at + length bytes.now < 2 ^ 63 }
     ensures value { Gives form_view result (behind_seconds hours.now minutes.now seconds.now at bytes.now) }
-    ensures short { IfOk result (λ form. IsShort (form_view form)) }
+    ensures short { IfOk result (λ form. HasShortFraction (form_view form)) }
 {
     match bytes {
         [] => Ok(Form::Clock {
@@ -95,7 +95,7 @@ fn behind_seconds<'a>(
 fn behind_hours<'a>(hours: &'a [u8], at: usize, bytes: &'a [u8]) -> Result<Form<'a>, NumFault>
     requires { at + length bytes.now < 2 ^ 63 }
     ensures value { Gives form_view result (behind_hours hours.now at bytes.now) }
-    ensures short { IfOk result (λ form. IsShort (form_view form)) }
+    ensures short { IfOk result (λ form. HasShortFraction (form_view form)) }
 {
     let (at, rest) = mark_at(b':', at, bytes)?;
     let (minutes, at, rest) = digits_at(at, rest)?;
@@ -109,7 +109,7 @@ fn behind_hours<'a>(hours: &'a [u8], at: usize, bytes: &'a [u8]) -> Result<Form<
 fn behind_first<'a>(digits: &'a [u8], at: usize, bytes: &'a [u8]) -> Result<Form<'a>, NumFault>
     requires { at + length bytes.now < 2 ^ 63 }
     ensures value { Gives form_view result (behind_first digits.now at bytes.now) }
-    ensures short { IfOk result (λ form. IsShort (form_view form)) }
+    ensures short { IfOk result (λ form. HasShortFraction (form_view form)) }
 {
     if bytes.is_empty() {
         return Ok(Form::Frames(digits));
@@ -122,7 +122,7 @@ fn behind_first<'a>(digits: &'a [u8], at: usize, bytes: &'a [u8]) -> Result<Form
 fn form_of(bytes: &[u8]) -> Result<Form<'_>, NumFault>
     requires { length bytes.now < 2 ^ 63 }
     ensures value { Gives form_view result (form_of bytes.now) }
-    ensures short { IfOk result (λ form. IsShort (form_view form)) }
+    ensures short { IfOk result (λ form. HasShortFraction (form_view form)) }
 {
     if bytes.is_empty() {
         return Err(NumFault::Empty);
@@ -213,7 +213,7 @@ fn counted_frame(
 
 /// The frame that a time means.
 fn frame_of(rate: Rate, form: Form) -> Result<Pos, NumFault>
-    requires { IsShort (form_view form) }
+    requires { HasShortFraction (form_view form) }
     ensures value { Gives (λ x. x.0) result (below (2 ^ 31) (frames_of rate.num rate.den (form_view form.entry))) }
     ensures small { IfOk result (λ x. x.0 < 2 ^ 31) }
 {

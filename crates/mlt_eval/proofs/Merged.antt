@@ -4,7 +4,7 @@ use Rattle.std.proofs.lemmas.List.{get_or_append_left, get_or_default, get_or-ap
 use Rattle.std.proofs.lemmas.List.Elements.{All-set}
 use Rattle.mlt_eval.specs.declared.register.Register.{Register}
 use Rattle.mlt_eval.specs.declared.register.Register.TheVariants.{Nothing}
-use Rattle.mlt_eval.specs.Fitted.{Fit}
+use Rattle.mlt_tree.specs.Show.{Fit}
 use Rattle.mlt_eval.specs.Registers.{held, register}
 
 -- a block behind some others is changed

@@ -6,11 +6,11 @@ use Rattle.mlt_base.specs.declared.profile.SourceNo.{SourceNo}
 use Rattle.mlt_eval.specs.declared.register.Register.{Register}
 use Rattle.mlt_eval.specs.declared.register.Register.TheVariants.{Nothing}
 use Rattle.mlt_eval.specs.Down.{down, IsPut, IsMerged}
-use Rattle.mlt_eval.specs.Fitted.{Fit}
+use Rattle.mlt_tree.specs.Show.{Fit}
 use Rattle.mlt_eval.specs.Registers.{held, register}
 use Rattle.mlt_frame.specs.declared.op.Op.{Op}
 use Rattle.mlt_frame.specs.declared.op.Op.TheVariants.{Load, Absent, Filter, Merge, Keep}
-use Rattle.mlt_frame.specs.Fits.{Fits}
+use Rattle.mlt_frame.specs.Fits.{FitsRegisters}
 use Rattle.mlt_frame.specs.Registers.{apply, regs}
 use Rattle.mlt_tree.specs.declared.filter.FilterStep.{FilterStep}
 use Rattle.mlt_tree.specs.declared.merge.MergeStep.{MergeStep}
@@ -18,7 +18,7 @@ use Rattle.mlt_tree.specs.Meaning.{Matter}
 use Rattle.mlt_eval.proofs.Downs.{get-down, down_new, down_put, down_kept, down_merged}
 
 -- where operations fit, there are no more registers than there is room for
-pub fits_within : (k n : ℕ) (ops : List Op) → Fits k n ops → n ≤ k
+pub fits_within : (k n : ℕ) (ops : List Op) → FitsRegisters k n ops → n ≤ k
 fits_within k n [] fits = fits.1
 fits_within k n (Load source at ∷ ops) fits = fits.1
 fits_within k n (Absent ∷ ops) fits = fits.1

@@ -1,26 +1,11 @@
 -- Pictures that were fitted into the frame, each with the number of its source.
-use Rattle.std.specs.Prelude.{◌≡◌, ℕ, ◌==◌, ◌||◌, Bool, false, List, [], ◌∷◌, All, slice_get, slice_index_or}
-use Rattle.mlt_base.specs.Profile.{Measures}
-use Rattle.mlt_base.specs.Still.{Picture}
-use Rattle.mlt_tree.specs.Show.{Source, picture_of}
-
--- a source's number, and a picture
-pub record Fit : Type 0 where
-  pub source : ℕ
-  pub picture : Picture
+use Rattle.std.specs.Prelude.{ℕ, ◌==◌, ◌||◌, Bool, false, List, [], ◌∷◌, slice_index_or}
+use Rattle.mlt_tree.specs.Show.{Fit}
 
 -- pictures in the order in which they were added, and how many more can be added
-pub record Fits : Type 0 where
+pub record FittedPictures : Type 0 where
   pub fits : List Fit
   pub spare : ℕ
-
--- the picture of a source of a table, fitted into the frame
-abbrev pub fitted_picture : Measures → List Source → ℕ → Picture
-fitted_picture profile table source = record { width = profile.width; height = profile.height; pixels = picture_of profile (slice_get table source) }
-
--- each picture is that of its source
-abbrev pub AreFitted : Measures → List Source → List Fit → Type 0
-AreFitted profile table fits = All (λ fit. fit.picture ≡ fitted_picture profile table fit.source) fits
 
 -- whether there is a picture of a source
 abbrev pub is_fitted : List Fit → ℕ → Bool

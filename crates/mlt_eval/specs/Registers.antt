@@ -3,7 +3,8 @@ use Rattle.std.specs.Prelude.{ℕ, ◌<◌, List, [], take, Option, None, Some, 
 use Rattle.mlt_eval.specs.declared.register.Register.{Register}
 use Rattle.mlt_eval.specs.declared.register.Register.TheVariants.{Nothing, Lent, Owned}
 use Rattle.mlt_eval.specs.Down.{down}
-use Rattle.mlt_eval.specs.Fitted.{Fit, fit_at}
+use Rattle.mlt_eval.specs.Fitted.{fit_at}
+use Rattle.mlt_tree.specs.Show.{Fit}
 
 -- the picture of a register with its block: one that was fitted, by its place, or the first bytes of the block
 abbrev pub held : (bytes : ℕ) → List Fit → (block : List ℕ) → Register → Option (List ℕ)

@@ -2,7 +2,8 @@
 use Rattle.std.specs.Prelude.{◌≡◌, true, List}
 use Rattle.mlt_frame.specs.declared.op.Op.{Op}
 use Rattle.mlt_frame.specs.declared.op.Op.TheVariants.{Load, Absent, Filter, Merge, Keep}
-use Rattle.mlt_eval.specs.Fitted.{Fit, is_fitted}
+use Rattle.mlt_eval.specs.Fitted.{is_fitted}
+use Rattle.mlt_tree.specs.Show.{Fit}
 use Rattle.mlt_vfilter.specs.Neutral.{is_neutral}
 
 -- the load of a picture that was fitted, or of nothing, and a filter that leaves pictures as they are

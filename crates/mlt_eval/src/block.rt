@@ -3,13 +3,13 @@
 ghost use Rattle.std.specs.Prelude.{◌≡◌, ◌*◌, ◌<◌, ◌≤◌, true, length, take, slice_get, Some, IfSome, All, option_copied, option_map, unwrap_or};
 ghost use Rattle.mlt_base.specs.Picture.{clear};
 ghost use Rattle.mlt_base.specs.ProfileView.{measures_of};
-ghost use Rattle.mlt_eval.specs.Fitted.{AreFitted, is_fitted};
+ghost use Rattle.mlt_eval.specs.Fitted.{is_fitted};
 ghost use Rattle.mlt_eval.specs.Registers.{held, IsThere};
 ghost use Rattle.mlt_trans.specs.Maps.{IsMap};
 ghost use Rattle.mlt_tree.specs.Filters.{picture_filter};
 ghost use Rattle.mlt_tree.specs.Merges.{map_of, picture_merge};
 ghost use Rattle.mlt_tree.specs.Ranges.{IsFilterStep, IsMergeStep};
-ghost use Rattle.mlt_tree.specs.Show.{pixels_of, picture_of};
+ghost use Rattle.mlt_tree.specs.Show.{pixels_of, picture_of, AreFitted};
 ghost use Rattle.mlt_vfilter.specs.Neutral.{is_neutral};
 
 use crate::register::Register;

@@ -4,7 +4,8 @@ ghost use Rattle.std.specs.Prelude.{◌≡◌, ℕ, ◌+◌, ◌*◌, ◌<◌, �
 ghost use Rattle.std.specs.Arc.{arc_value};
 ghost use Rattle.mlt_base.specs.ProfileView.{measures_of};
 ghost use Rattle.mlt_eval.specs.Entries.{fit_of};
-ghost use Rattle.mlt_eval.specs.Fitted.{Fit, fitted_picture, is_fitted, fit_at};
+ghost use Rattle.mlt_eval.specs.Fitted.{is_fitted, fit_at};
+ghost use Rattle.mlt_tree.specs.Show.{Fit, fitted_picture};
 
 use mlt_base::{Profile, SourceNo, Still};
 use mlt_source::SourceTable;
@@ -30,9 +31,9 @@ pub struct Fitted {
 
 impl Model for Fitted {
     ghost use Rattle.std.specs.Prelude.{◌-◌, map, vec_len, vec_capacity};
-    ghost use Rattle.mlt_eval.specs.Fitted.{Fits};
+    ghost use Rattle.mlt_eval.specs.Fitted.{FittedPictures};
 
-    ghost Value = { Fits };
+    ghost Value = { FittedPictures };
 
     ghost use Rattle.mlt_eval.specs.Entries.{fit_of};
 

@@ -2,17 +2,17 @@
 
 ghost use Rattle.std.specs.Prelude.{◌≡◌, ◌*◌, ◌^◌, ◌<◌, ◌≤◌, [], None, length, take, All};
 ghost use Rattle.mlt_base.specs.ProfileView.{measures_of};
-ghost use Rattle.mlt_eval.specs.Fitted.{AreFitted};
 ghost use Rattle.mlt_eval.specs.Pictures.{top_picture};
 ghost use Rattle.mlt_eval.specs.Still.{IsStill};
-ghost use Rattle.mlt_frame.specs.Fits.{Fits};
+ghost use Rattle.mlt_frame.specs.Fits.{FitsRegisters};
 ghost use Rattle.mlt_frame.specs.Loads.{loads, maps};
 ghost use Rattle.mlt_frame.specs.Ranges.{IsInRange};
+ghost use Rattle.mlt_frame.specs.Started.{CanRun};
 ghost use Rattle.mlt_frame.specs.Registers.{regs};
 ghost use Rattle.mlt_frame.specs.Stack.{emptied};
 ghost use Rattle.mlt_graph.specs.Piece.{piece_of, pixel_bytes};
 ghost use Rattle.mlt_graph.specs.Show.{pix_of};
-ghost use Rattle.mlt_tree.specs.Show.{pixels_of, pictures_of, packed};
+ghost use Rattle.mlt_tree.specs.Show.{pixels_of, pictures_of, packed, AreFitted};
 
 use crate::rendered::Rendered;
 use crate::scene::{Scene, packed_bytes};
@@ -38,7 +38,7 @@ fn draw_bytes<B: Bands>(
     requires ranges { All IsInRange ops.now }
     requires sources { All (λ source. source < length scene.now.table.now) (loads ops.now) }
     requires maps { All (λ source. source < length scene.now.table.now) (maps ops.now) }
-    requires fits { Fits (length rack.old.blocks) 0 ops.now }
+    requires fits { FitsRegisters (length rack.old.blocks) 0 ops.now }
     requires room { pixels_of (measures_of scene.now.profile.now) * pixel_bytes pix ≤ length bytes.old }
     ensures video { take (pixels_of (measures_of scene.now.profile.now) * pixel_bytes pix) bytes.new
         ≡ packed (pix_of pix) (top_picture (measures_of scene.now.profile.now) (regs (pictures_of (measures_of scene.now.profile.now) scene.now.table.now) [] ops.now)) }
@@ -63,7 +63,7 @@ fn draw_lease<B: Bands>(
     requires ranges { All IsInRange ops.now }
     requires sources { All (λ source. source < length scene.now.table.now) (loads ops.now) }
     requires maps { All (λ source. source < length scene.now.table.now) (maps ops.now) }
-    requires fits { Fits (length rack.old.blocks) 0 ops.now }
+    requires fits { FitsRegisters (length rack.old.blocks) 0 ops.now }
     requires room { pixels_of (measures_of scene.now.profile.now) * pixel_bytes pix ≤ length out.old }
     ensures video { take (pixels_of (measures_of scene.now.profile.now) * pixel_bytes pix) out.new
         ≡ packed (pix_of pix) (top_picture (measures_of scene.now.profile.now) (regs (pictures_of (measures_of scene.now.profile.now) scene.now.table.now) [] ops.now)) }
@@ -94,10 +94,7 @@ pub fn render<B: Bands>(
     profile: &Profile,
     output: &Output,
 ) -> Rendered
-    requires ranges { All IsInRange frame.image.ops }
-    requires fits { Fits (length rack.old.blocks) 0 frame.image.ops }
-    requires sources { All (λ source. source < length table.now) (loads frame.image.ops) }
-    requires maps { All (λ source. source < length table.now) (maps frame.image.ops) }
+    requires runs { CanRun (length rack.old.blocks) (length table.now) frame.image.ops }
     requires size { pixels_of (measures_of profile.now) * 4 ≤ rack.old.size }
     requires piece { piece_of output.now profile.now ≤ length frame.out }
     requires fitted { AreFitted (measures_of profile.now) table.now fitted.now.fits }

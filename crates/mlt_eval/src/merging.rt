@@ -4,12 +4,11 @@ ghost use Rattle.std.specs.Prelude.{◌≡◌, ◌≢◌, ℕ, ◌*◌, ◌<◌,
 ghost use Rattle.mlt_base.specs.ProfileView.{measures_of};
 ghost use Rattle.mlt_eval.specs.Blocks.{AreBlocks};
 ghost use Rattle.mlt_eval.specs.Down.{IsMerged};
-ghost use Rattle.mlt_eval.specs.Fitted.{AreFitted};
 ghost use Rattle.mlt_eval.specs.Pictures.{merge_of};
 ghost use Rattle.mlt_eval.specs.Registers.{held, register, IsThere};
 ghost use Rattle.mlt_tree.specs.Merges.{map_of};
 ghost use Rattle.mlt_tree.specs.Ranges.{IsMergeStep};
-ghost use Rattle.mlt_tree.specs.Show.{pixels_of, map_picture};
+ghost use Rattle.mlt_tree.specs.Show.{pixels_of, map_picture, AreFitted};
 ghost use Rattle.mlt_tree.specs.Sources.{numbered};
 
 use crate::block::{find_or_load, lent, merge_block};

@@ -4,16 +4,16 @@ ghost use Rattle.std.specs.Prelude.{◌≡◌, ℕ, ◌*◌, ◌<◌, ◌≤◌,
 ghost use Rattle.mlt_base.specs.ProfileView.{measures_of};
 ghost use Rattle.mlt_eval.specs.Blocks.{AreBlocks};
 ghost use Rattle.mlt_eval.specs.Down.{IsPut};
-ghost use Rattle.mlt_eval.specs.Fitted.{Fit, AreFitted, is_fitted};
+ghost use Rattle.mlt_eval.specs.Fitted.{is_fitted};
 ghost use Rattle.mlt_eval.specs.Registers.{register, registers, IsThere};
 ghost use Rattle.mlt_eval.specs.Still.{IsStill};
-ghost use Rattle.mlt_frame.specs.Fits.{Finds, HasRoom, Fits, after};
+ghost use Rattle.mlt_frame.specs.Fits.{Finds, HasRoom, FitsRegisters, after};
 ghost use Rattle.mlt_frame.specs.Loads.{load, loads, map, maps};
 ghost use Rattle.mlt_frame.specs.Ranges.{IsInRange};
 ghost use Rattle.mlt_frame.specs.Registers.{apply, regs};
 ghost use Rattle.mlt_tree.specs.Filters.{picture_filter};
 ghost use Rattle.mlt_tree.specs.Ranges.{IsFilterStep};
-ghost use Rattle.mlt_tree.specs.Show.{pixels_of, picture_of, pictures_of};
+ghost use Rattle.mlt_tree.specs.Show.{pixels_of, picture_of, pictures_of, Fit, AreFitted};
 ghost use Rattle.mlt_vfilter.specs.Neutral.{is_neutral};
 
 use crate::block::{filter_block, find_or_load, stays};
@@ -172,7 +172,7 @@ pub(crate) fn run<B: Bands>(
     requires ranges { All IsInRange ops.now }
     requires sources { All (λ source. source < length scene.now.table.now) (loads ops.now) }
     requires maps { All (λ source. source < length scene.now.table.now) (maps ops.now) }
-    requires fits { Fits (length blocks.old) 0 ops.now }
+    requires fits { FitsRegisters (length blocks.old) 0 ops.now }
     ensures blocks { AreBlocks _size blocks.new states.new }
     ensures there { All (IsThere (length scene.now.fitted.now.fits)) states.new }
     ensures registers { registers (pixels_of (measures_of scene.now.profile.now) * 4) scene.now.fitted.now.fits blocks.new states.new 1

@@ -3,11 +3,10 @@
 ghost use Rattle.std.specs.Prelude.{◌≡◌, ◌*◌, ◌/◌, ◌%◌, ◌≤◌, length, unwrap_or};
 ghost use Rattle.mlt_base.specs.Picture.{clear};
 ghost use Rattle.mlt_base.specs.ProfileView.{measures_of};
-ghost use Rattle.mlt_eval.specs.Fitted.{AreFitted};
 ghost use Rattle.mlt_eval.specs.Registers.{held, IsThere};
 ghost use Rattle.mlt_graph.specs.Piece.{pixel_bytes};
 ghost use Rattle.mlt_graph.specs.Show.{pix_of};
-ghost use Rattle.mlt_tree.specs.Show.{pixels_of, packed};
+ghost use Rattle.mlt_tree.specs.Show.{pixels_of, packed, AreFitted};
 
 use crate::register::Register;
 use crate::scene::{Scene, fitted_bytes};

@@ -2,11 +2,10 @@
 
 ghost use Rattle.std.specs.Prelude.{◌≡◌, ◌*◌, ◌^◌, ◌<◌, ◌≤◌, [], length, All, IfOk, IfNone, IfSome, OnErr, vec_len, vec_capacity};
 ghost use Rattle.mlt_base.specs.ProfileView.{measures_of};
-ghost use Rattle.mlt_eval.specs.Fitted.{AreFitted};
 ghost use Rattle.mlt_eval.specs.Lending.{AreLent};
 ghost use Rattle.mlt_eval.specs.Pictures.{top_picture};
 ghost use Rattle.mlt_eval.specs.Still.{IsStill};
-ghost use Rattle.mlt_frame.specs.Fits.{Fits};
+ghost use Rattle.mlt_frame.specs.Fits.{FitsRegisters};
 ghost use Rattle.mlt_frame.specs.Loads.{loads, maps};
 ghost use Rattle.mlt_frame.specs.Ranges.{IsInRange};
 ghost use Rattle.mlt_frame.specs.Registers.{regs};
@@ -14,7 +13,7 @@ ghost use Rattle.mlt_graph.specs.Piece.{pixel_bytes};
 ghost use Rattle.mlt_graph.specs.Show.{pix_of};
 ghost use Rattle.mlt_pool.specs.Class.{class_of};
 ghost use Rattle.mlt_pool.specs.Counts.{home_of, lent_of, lent_out, brought};
-ghost use Rattle.mlt_tree.specs.Show.{pixels_of, pictures_of, packed};
+ghost use Rattle.mlt_tree.specs.Show.{pixels_of, pictures_of, packed, AreFitted};
 
 use crate::operation::run;
 use crate::packing::pack_register;
@@ -95,7 +94,7 @@ impl Rack {
         requires ranges { All IsInRange ops.now }
         requires sources { All (λ source. source < length scene.now.table.now) (loads ops.now) }
         requires maps { All (λ source. source < length scene.now.table.now) (maps ops.now) }
-        requires fits { Fits (length self.old.blocks) 0 ops.now }
+        requires fits { FitsRegisters (length self.old.blocks) 0 ops.now }
         requires out { length out.old ≡ pixels_of (measures_of scene.now.profile.now) * pixel_bytes pix }
         ensures video { out.new ≡ packed (pix_of pix) (top_picture (measures_of scene.now.profile.now) (regs (pictures_of (measures_of scene.now.profile.now) scene.now.table.now) [] ops.now)) }
         ensures blocks { (self.new.size ≡ self.old.size) × (length self.new.blocks ≡ length self.old.blocks) }

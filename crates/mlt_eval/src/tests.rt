@@ -1,11 +1,9 @@
 //! Fitted pictures, a rack and rendered frames as a caller sees them.
 
-ghost use Rattle.std.specs.Prelude.{◌≡◌, ◌<◌, None, length, All, IfOk};
+ghost use Rattle.std.specs.Prelude.{◌≡◌, None, length, IfOk};
 ghost use Rattle.mlt_base.specs.ProfileView.{measures_of};
-ghost use Rattle.mlt_eval.specs.Fitted.{AreFitted};
-ghost use Rattle.mlt_frame.specs.Fits.{Fits};
-ghost use Rattle.mlt_frame.specs.Loads.{loads, maps};
-ghost use Rattle.mlt_frame.specs.Ranges.{IsInRange};
+ghost use Rattle.mlt_tree.specs.Show.{AreFitted};
+ghost use Rattle.mlt_frame.specs.Started.{CanRun};
 ghost use Rattle.mlt_pool.specs.Counts.{all_lent};
 
 use super::*;
@@ -192,10 +190,7 @@ fn render_lent(
     pix: Pix,
     expected: &[u8],
 ) -> Result<Option<Told>, AllocError>
-    requires ranges { All IsInRange ops.now }
-    requires fits { Fits 3 0 ops.now }
-    requires sources { All (λ source. source < 2) (loads ops.now) }
-    requires maps { All (λ source. source < 2) (maps ops.now) }
+    requires runs { CanRun 3 2 ops.now }
     ensures { all_lent pool.new ≡ all_lent pool.old }
 {
     let profile = two_pixels();
@@ -229,10 +224,7 @@ fn render_ops(
     pix: Pix,
     expected: &[u8],
 ) -> Result<Option<Told>, AllocError>
-    requires ranges { All IsInRange ops.now }
-    requires fits { Fits 3 0 ops.now }
-    requires sources { All (λ source. source < 2) (loads ops.now) }
-    requires maps { All (λ source. source < 2) (maps ops.now) }
+    requires runs { CanRun 3 2 ops.now }
 {
     let mut pool = Pool::new(alloc);
     if pool.reserve(12, 4).is_err() {

@@ -2,7 +2,7 @@
 use Rattle.std.proofs.Common.{ℕ, ◌≡◌, ◌≤◌, List, [], ◌∷◌, Option, None, Some, refl, arith}
 use Rattle.mlt_frame.specs.declared.op.Op.{Op}
 use Rattle.mlt_frame.specs.declared.op.Op.TheVariants.{Load, Absent, Filter, Merge, Keep}
-use Rattle.mlt_frame.specs.Fits.{Fits}
+use Rattle.mlt_frame.specs.Fits.{FitsRegisters}
 use Rattle.mlt_frame.specs.Loads.{loads}
 use Rattle.mlt_frame.specs.Registers.{regs}
 use Rattle.mlt_tree.specs.declared.filter.FilterStep.{FilterStep}
@@ -77,9 +77,9 @@ loaded : loads whole ≡ (4 ∷ 1 ∷ [])
 loaded = refl
 
 -- a merge of three registers wants a fourth
-whole_fits : Fits 4 0 whole
+whole_fits : FitsRegisters 4 0 whole
 whole_fits =
     (tt, omega arith, (tt, omega arith, (tt, omega arith, ((omega arith, omega arith, omega arith), omega arith, ((omega arith, omega arith), omega arith, (refl, omega arith))))))
 
-whole_needs : (k : ℕ) → Fits k 0 whole → 4 ≤ k
+whole_needs : (k : ℕ) → FitsRegisters k 0 whole → 4 ≤ k
 whole_needs k fits = omega (arith, fits.2.2.2.1)

@@ -29,6 +29,6 @@ HasRoom k n (Keep row count) = n ≤ k
 
 -- from n registers on, operations find the registers that they name and end with one register, and no stage has
 -- more than k registers, nor all k at a merge
-abbrev pub Fits : (k n : ℕ) → List Op → Type 0
-Fits k n [] = (n ≡ 1) × (n ≤ k)
-Fits k n (op ∷ ops) = Finds n op × HasRoom k n op × Fits k (after n op) ops
+abbrev pub FitsRegisters : (k n : ℕ) → List Op → Type 0
+FitsRegisters k n [] = (n ≡ 1) × (n ≤ k)
+FitsRegisters k n (op ∷ ops) = Finds n op × HasRoom k n op × FitsRegisters k (after n op) ops

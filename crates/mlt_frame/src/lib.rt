@@ -7,6 +7,7 @@
 #![tactic(auto)]
 
 pub mod frame;
+pub mod laws;
 pub mod op;
 pub mod stack;
 

@@ -7,7 +7,7 @@ use Rattle.mlt_tree.specs.Sizes.{need, weight as weight_in, ops}
 use Rattle.mlt_tree.specs.Tree.{len}
 use Rattle.mlt_tree.specs.Units.{tree_of, depth_of}
 use Rattle.mlt_graph.specs.Graph.{IsSized}
-use Rattle.mlt_graph.specs.Seal.{seal}
+use Rattle.mlt_graph.specs.Seal.{sealed_within}
 use Rattle.mlt_graph.specs.Sealed.{Shown, IsKept}
 use Rattle.mlt_graph.specs.Sizes.{nothing, size_of}
 use Rattle.mlt_graph.specs.declared.fault.GraphFault.{GraphFault}
@@ -38,14 +38,14 @@ module _ (us : List Node) (sizes : List Size) (k : ℕ) (size : Size) (sized : I
   depth-is : size.depth ≡ depth_of us k
   depth-is = ap (λ (s : Size). s.depth) size-is ∙ omega (arith, sized.few, depth-le us sized.graph k there)
 
-  pub too_deep : 16 < size.depth → Err (TooDeep size.depth) ≡ seal us k
+  pub too_deep : 16 < size.depth → Err (TooDeep size.depth) ≡ sealed_within us k
   too_deep deep = depth_first size.depth (depth_of us k) _ depth-is deep
 
   module _ (weight : Weight) (weight-is : weight ≡ weight_of (tree_of us k)) where
     weight-low : weight.weight ≤ 65536 → weight_in (tree_of us k) ≤ 65536
     weight-low low = let e = ap (λ (w : Weight). w.weight) weight-is in omega arith
 
-    pub too_heavy : size.depth ≤ 16 → 65536 < weight.weight → Err (TooMany 65536) ≡ seal us k
+    pub too_heavy : size.depth ≤ 16 → 65536 < weight.weight → Err (TooMany 65536) ≡ sealed_within us k
     too_heavy low heavy =
         let e = ap (λ (w : Weight). w.weight) weight-is in
         weight_next (depth_of us k) (weight_in (tree_of us k)) _ (omega (arith, depth-is)) (omega arith)
@@ -72,5 +72,5 @@ module _ (us : List Node) (sizes : List Size) (k : ℕ) (size : Size) (sized : I
           few_ops = omega arith;
         }
 
-    pub sealed : size.depth ≤ 16 → weight.weight ≤ 65536 → Ok (record { units = us; top = k }) ≡ seal us k
+    pub sealed : size.depth ≤ 16 → weight.weight ≤ 65536 → Ok (record { units = us; top = k }) ≡ sealed_within us k
     sealed low light = passes (depth_of us k) (weight_in (tree_of us k)) (record { units = us; top = k }) (omega (arith, depth-is)) (weight-low light)

@@ -2,6 +2,7 @@ pub mod Drafts
 pub mod Graph
 pub mod LevelLends
 pub mod Lists
+pub mod Operations
 pub mod Piece
 pub mod Seal
 pub mod Sealed

@@ -8,6 +8,6 @@ use Rattle.mlt_graph.specs.declared.fault.GraphFault.{GraphFault}
 use Rattle.mlt_graph.specs.declared.fault.GraphFault.TheVariants.{TooDeep, TooMany}
 use Rattle.mlt_graph.specs.Sealed.{Shown}
 
-abbrev pub seal : List Node → ℕ → Result Shown GraphFault
-seal units top =
+abbrev pub sealed_within : List Node → ℕ → Result Shown GraphFault
+sealed_within units top =
     if nat_lt MOST_DEPTH (depth_of units top) then Err (TooDeep (depth_of units top)) else (if nat_lt MOST_WEIGHT (weight (tree_of units top)) then Err (TooMany MOST_WEIGHT) else Ok (record { units = units; top = top }))

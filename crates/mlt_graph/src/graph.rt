@@ -7,7 +7,7 @@ ghost use Rattle.mlt_tree.specs.Tree.{len};
 ghost use Rattle.mlt_tree.specs.Units.{source_unit, list_unit, mix_unit, node_tree, drafts_of, tractor_of, with_filter, with_unit_filter, with_mixer, tree_of, body_depth, depth_of, IsEntryBelow, AreEntriesBelow, IsBodyBelow, IsMix};
 ghost use Rattle.mlt_graph.specs.Graph.{HasLength, HasFewTracks, tractor_fault, FailsBy};
 ghost use Rattle.mlt_graph.specs.Lists.{starts_in};
-ghost use Rattle.mlt_graph.specs.Seal.{seal};
+ghost use Rattle.mlt_graph.specs.Seal.{sealed_within};
 ghost use Rattle.mlt_graph.specs.Sizes.{size_of};
 
 use crate::fault::GraphFault;
@@ -197,7 +197,7 @@ impl Graph {
     /// 65,536; the graph is dropped.
     pub fn seal(self, top: UnitId) -> Result<Sealed, GraphFault>
         requires { top.0 < length self }
-        ensures { result ≡ seal self top.0 }
+        ensures { result ≡ sealed_within self top.0 }
     {
         let Graph {
             nodes,

@@ -13,6 +13,7 @@
 mod closed;
 pub mod fault;
 pub mod graph;
+pub mod laws;
 pub mod level;
 mod misplaced;
 mod mix;
@@ -26,7 +27,7 @@ pub use fault::GraphFault;
 pub use graph::Graph;
 pub use level::Level;
 pub use sealed::Sealed;
-pub use show::{Format, Output, Pix, Show, unit_of};
+pub use show::{Format, Output, Pix, Show, pairs_of, unit_of};
 
 #[cfg(test)]
 mod tests;

@@ -4,7 +4,7 @@ ghost use Rattle.std.specs.Prelude.{◌≡◌, ℕ, ◌+◌, ◌-◌, ◌≤◌,
 ghost use Rattle.mlt_base.specs.ProfileView.{measures_of};
 ghost use Rattle.mlt_base.specs.declared.limits.TheConstants.{MOST_WRITTEN};
 ghost use Rattle.mlt_tree.specs.declared.services.TheConstants as row;
-ghost use Rattle.mlt_tree.specs.Sealing.{unit_of};
+ghost use Rattle.mlt_tree.specs.Sealing.{pairs_of, unit_of};
 ghost use Rattle.mlt_tree.specs.Tree.{len};
 ghost use Rattle.mlt_graph.specs.Sealed.{tree};
 
@@ -109,13 +109,24 @@ impl Output {
     }
 }
 
-/// The bytes of one picture, 4 bytes a pixel, or of one pair's sound in a frame, whichever is more.
-pub fn unit_of(profile: &Profile) -> u32
-    ensures value { result ≡ unit_of (measures_of profile.now) }
+/// How many pairs so many channels are, 8 at most; the last pair may have one.
+pub fn pairs_of(channels: u32) -> u32
+    requires { channels ≤ 8 }
+    ensures value { result ≡ pairs_of channels }
+    ensures most { result ≤ 4 }
+{
+    (channels + 1) / 2
+}
+
+/// The bytes of one picture, 4 bytes a pixel, or of so many pairs of channels in a frame's sound, 4 bytes for a
+/// sample of each, whichever is more. There are 4 pairs at most.
+pub fn unit_of(profile: &Profile, pairs: u32) -> u32
+    requires { pairs ≤ 4 }
+    ensures value { result ≡ unit_of (measures_of profile.now) pairs }
     ensures most { result ≤ 2 ^ 28 }
 {
     let picture = profile.width * profile.height * 4;
-    let sound = 4 * profile.most_samples();
+    let sound = 4 * pairs * profile.most_samples();
     picture.max(sound)
 }
 

@@ -6,7 +6,7 @@ ghost use Rattle.mlt_tree.specs.Edits.{frames_in};
 ghost use Rattle.mlt_tree.specs.Ranges.{IsAttached};
 ghost use Rattle.mlt_tree.specs.Units.{drafts_of, IsEntryBelow, AreEntriesBelow, IsMix};
 
-use crate::{Format, Graph, GraphFault, Level, Output, Pix, unit_of};
+use crate::{Format, Graph, GraphFault, Level, Output, Pix, pairs_of, unit_of};
 use mlt_base::{Pos, Profile, Rate, SourceNo, Span, Text, UnitId};
 use mlt_playlist::{EntryList, MixParts};
 use mlt_tree::{Attached, Entry, FilterList, FilterSpec, Hide, ItemList, MergeSpec, SourceKind};
@@ -328,6 +328,7 @@ fn has_room_for_a_frame(rt: HostRuntime) -> Result<(), Fail> {
     let long = output_of(rt.alloc(), Pix::Rgba, Format::S32)?;
     assert_eq!(rt; short.piece(&profile), 1_244_160 + 7_680);
     assert_eq!(rt; long.piece(&profile), 1_658_880 + 15_360);
-    assert_eq!(rt; unit_of(&profile), 1_658_880);
+    assert_eq!(rt; unit_of(&profile, 1), 1_658_880);
+    assert_eq!(rt; (pairs_of(1), pairs_of(2), pairs_of(5)), (1, 1, 3));
     Ok(())
 }

@@ -1,9 +1,11 @@
 -- Reads and writes one after the other.
-use Rattle.std.proofs.Common.{◌≡◌, ℕ, ◌+◌, ◌-◌, List, ◌++◌, Option, None, Some, length, take, drop, sym, ap, subst, ◌∙◌, append_assoc, append-nil, take-append-drop, Result, Ok, Err, OnErr}
+use Rattle.std.proofs.Common.{◌≡◌, ℕ, ◌+◌, ◌-◌, ◌≤◌, List, ◌++◌, Option, None, Some, length, take, drop, true, sym, ap, subst, ◌∙◌, append_assoc, append-nil, take-append-drop, Result, Ok, Err, OnOk, arith}
 use Rattle.std.proofs.KnownBytes.{Appends-kept}
 use Rattle.std.proofs.Math.Seq.{take-add, take-append_seam}
-use Rattle.std.proofs.lemmas.List.{take_rest}
+use Rattle.std.proofs.lemmas.List.{take_rest, nil_from_length}
 use Rattle.std.specs.Io.KnownBytes.{Appends, Consumes, Keeps}
+use Rattle.mlt_host.specs.Count.{next, port_count}
+use Rattle.mlt_host.specs.Streams.{SinkState, WroteFront, Writes}
 
 -- what two reads took is the one's bytes and then the other's
 consumes_both : (a b c : Option (List ℕ)) (first second : List ℕ) → Consumes a b first → Consumes b c second → Consumes a c (first ++ second)
@@ -37,13 +39,25 @@ front_written a b c all done rest split wrote stays =
     let front : take (length done) all ≡ done = ap (take (length done)) split ∙ take-append_seam done rest in
     (length done, subst (Appends a c) (sym front) (Appends-kept a b c done wrote stays))
 
--- nothing was written where no byte was taken
-pub keeps_none : (a b : Option (List ℕ)) (bytes : List ℕ) (count : ℕ) → count ≡ 0 → Appends a b (take count bytes) → Keeps a b
-keeps_none None b bytes count none p = tt
-keeps_none (Some x) None bytes count none p = absurd p
-keeps_none (Some x) (Some y) bytes count none p = p ∙ ap (λ n. x ++ take n bytes) none ∙ append-nil x
+-- the count after one more is at most that
+next_above : (number : ℕ) → next number ≤ number + 1
+next_above number = omega arith
 
--- what holds of any answer holds where it is an Err
-pub on_err : {T E : Type 0} (result : Result T E) (Fact : Type 0) → Fact → OnErr result Fact
-on_err (Ok _) Fact fact = tt
-on_err (Err _) Fact fact = fact
+-- a write that failed ends with a front
+pub fails : (bytes done rest : List ℕ) (a b c : SinkState) → bytes ≡ done ++ rest → Appends a.contents b.contents done → b.failures ≡ a.failures → b.flushes ≡ a.flushes → Keeps b.contents c.contents → c.failures ≡ next b.failures → c.flushes ≤ b.flushes + 1 → WroteFront bytes a c
+fails bytes done rest a b c split wrote failures flushes stays failed flushed = record {
+  front = front_written _ _ _ bytes done rest split wrote stays;
+  failures = failed ∙ ap next failures;
+  flushes = subst (λ n. c.flushes ≤ n + 1) flushes flushed;
+}
+
+-- a flush behind all the bytes ends an append
+pub flush_ends : {T E : Type 0} (result : Result T E) (bytes done rest : List ℕ) (a b c : SinkState) → bytes ≡ done ++ rest → length rest ≡ 0 → Appends a.contents b.contents done → b.failures ≡ a.failures → b.flushes ≡ a.flushes → Keeps b.contents c.contents → c.failures ≡ port_count result b.failures → c.flushes ≡ next b.flushes → OnOk result (c.flushed ≡ true) → Writes result bytes a c
+flush_ends (Ok _) bytes done rest a b c split none wrote failures flushes stays count once flushed = record {
+  contents = subst (Appends a.contents c.contents) (sym (split ∙ ap (λ l. done ++ l) (nil_from_length rest none) ∙ append-nil done)) (Appends-kept a.contents b.contents c.contents done wrote stays);
+  failures = count ∙ failures;
+  flushes = once ∙ ap next flushes;
+  flushed = flushed;
+}
+flush_ends (Err _) bytes done rest a b c split none wrote failures flushes stays count once flushed =
+    fails bytes done rest a b c split wrote failures flushes stays count (subst (λ n. n ≤ b.flushes + 1) (sym once) (next_above b.flushes))

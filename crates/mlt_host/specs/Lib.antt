@@ -7,8 +7,13 @@ pub mod Failures
 pub mod InMemory
 pub mod MemHost
 pub mod CalmHost
+pub mod Streams
+pub mod Counted
+pub mod Disk
+pub mod Calls
 pub mod DiskFile
 pub mod FileName
+pub mod SystemDisk
 pub mod Outlet
 pub mod DiskHost
 pub mod DiskInMemory

@@ -5,9 +5,10 @@ use Rattle.mlt_base.specs.declared.port.Port.{Port}
 use Rattle.mlt_base.specs.declared.port.Port.TheVariants.{Video, Audio, Script, Text}
 use Rattle.mlt_host.specs.declared.outlet.Outlet.{Outlet}
 use Rattle.mlt_host.specs.declared.outlet.Outlets.{Outlets}
-use Rattle.mlt_host.specs.declared.outlet.Sink.{Sink}
-use Rattle.mlt_host.specs.declared.outlet.Sink.TheVariants.{Nowhere, Output, Open}
+use Rattle.mlt_host.specs.declared.outlet.Target.{Target}
+use Rattle.mlt_host.specs.declared.outlet.Target.TheVariants.{Nowhere, Output, Open}
 use Rattle.mlt_host.specs.FileName.{name_in}
+use Rattle.mlt_host.specs.Streams.{SinkState}
 
 -- nowhere, as a port that was never created; standard output; standard error; the open file of that name
 pub data Place : Type 0 where
@@ -17,14 +18,14 @@ pub data Place : Type 0 where
   FileOf : List ℕ → Place
 
 -- where the bytes go, with the name of the file where it is one
-abbrev pub sink_place : {F : Type 0} → Sink F → List ℕ → Place
-sink_place Nowhere name = NoPlace
-sink_place Output name = StandardOutput
-sink_place (Open _) name = FileOf name
+abbrev pub target_place : {F : Type 0} → Target F → List ℕ → Place
+target_place Nowhere name = NoPlace
+target_place Output name = StandardOutput
+target_place (Open _) name = FileOf name
 
 -- where the outlet goes
 abbrev pub outlet_place : {F : Type 0} → Outlet F → Place
-outlet_place outlet = sink_place outlet.sink (name_in outlet.name)
+outlet_place outlet = target_place outlet.target (name_in outlet.name)
 
 -- where the port goes
 abbrev pub place_at : {F : Type 0} → Outlets F → Port → Place
@@ -34,14 +35,14 @@ place_at outlets Script = outlet_place outlets.script
 place_at outlets Text = StandardError
 
 -- the file that is open, where one is
-abbrev pub sink_file : {F : Type 0} → Sink F → Option F
-sink_file Nowhere = None
-sink_file Output = None
-sink_file (Open file) = Some file
+abbrev pub target_file : {F : Type 0} → Target F → Option F
+target_file Nowhere = None
+target_file Output = None
+target_file (Open file) = Some file
 
 -- the file that the outlet has open, where it has one
 abbrev pub outlet_file : {F : Type 0} → Outlet F → Option F
-outlet_file outlet = sink_file outlet.sink
+outlet_file outlet = target_file outlet.target
 
 -- the file that the port has open, where it has one
 abbrev pub file_at : {F : Type 0} → Outlets F → Port → Option F
@@ -50,22 +51,22 @@ file_at outlets Audio = outlet_file outlets.audio
 file_at outlets Script = outlet_file outlets.script
 file_at outlets Text = None
 
--- the bytes where it goes, where they are known: those of standard output, or of the file
-abbrev pub sink_holds : {F : Type 0} → (F → Option (List ℕ)) → Option (List ℕ) → Sink F → Option (List ℕ)
-sink_holds contents stdout Nowhere = None
-sink_holds contents stdout Output = stdout
-sink_holds contents stdout (Open file) = contents file
+-- what the file or standard output tells to which it goes, where it goes to one
+abbrev pub target_sink : {F : Type 0} → (F → SinkState) → SinkState → Target F → Option SinkState
+target_sink told stdout Nowhere = None
+target_sink told stdout Output = Some stdout
+target_sink told stdout (Open file) = Some (told file)
 
--- the bytes where the outlet goes, where they are known
-abbrev pub outlet_holds : {F : Type 0} → (F → Option (List ℕ)) → Option (List ℕ) → Outlet F → Option (List ℕ)
-outlet_holds contents stdout outlet = sink_holds contents stdout outlet.sink
+-- what the file or standard output tells to which the outlet goes, where it goes to one
+abbrev pub outlet_sink : {F : Type 0} → (F → SinkState) → SinkState → Outlet F → Option SinkState
+outlet_sink told stdout outlet = target_sink told stdout outlet.target
 
--- the bytes where the port goes, where they are known, by those of a file, of standard output and of standard error
-abbrev pub held_at : {F : Type 0} → (F → Option (List ℕ)) → Option (List ℕ) → Option (List ℕ) → Outlets F → Port → Option (List ℕ)
-held_at contents stdout stderr outlets Video = outlet_holds contents stdout outlets.video
-held_at contents stdout stderr outlets Audio = outlet_holds contents stdout outlets.audio
-held_at contents stdout stderr outlets Script = outlet_holds contents stdout outlets.script
-held_at contents stdout stderr outlets Text = stderr
+-- what the file or the stream tells to which the port goes, where it goes to one
+abbrev pub sink_at : {F : Type 0} → (F → SinkState) → SinkState → SinkState → Outlets F → Port → Option SinkState
+sink_at told stdout stderr outlets Video = outlet_sink told stdout outlets.video
+sink_at told stdout stderr outlets Audio = outlet_sink told stdout outlets.audio
+sink_at told stdout stderr outlets Script = outlet_sink told stdout outlets.script
+sink_at told stdout stderr outlets Text = Some stderr
 
 -- where a name leads
 abbrev pub named_place : List ℕ → Place

@@ -1,43 +1,54 @@
 //! What a `DiskHost` asks of a disk: files that are opened by name.
 
-ghost use Rattle.std.specs.Prelude.{◌≡◌, ℕ, List, ⊤, IfOk, OnErr};
+ghost use Rattle.std.specs.Prelude.{◌≡◌, ℕ, List, ⊤, IfOk};
 
-use crate::{Failed, LoadFault};
-use std::io::{Read, Write};
+use crate::{Failed, Sink, Source};
+
+/// Why a file was not opened.
+#[derive(Clone, Copy, Debug, PartialEq, Eq)]
+pub enum OpenFault {
+    /// There is no file of that name.
+    Missing,
+    /// The file can't be opened.
+    Failed,
+    /// Memory was wanting.
+    Memory,
+}
 
 /// Files that are opened by name, to be read or to be written.
 ///
-/// What it tells of them its ghost members say; where they are left out it tells nothing.
+/// It counts each call of `open` and of `create`, and each that has failed. Where it tells its files, they
+/// stay as they were told, so a file that is created is none that is told.
 pub trait Disk {
-    /// A file that is open.
-    type File: Read + Write + Drop;
+    ghost use Rattle.mlt_host.specs.Disk.{DiskState, open_count, IsOpenOf, AskedToOpen, AskedToCreate};
 
-    /// An open of that name may give this file.
-    ghost reads: { Self → List ℕ → Self.File → Type 0 } = { λ _ _ _. ⊤ };
+    /// A file that was opened, to be read.
+    type Opened: Source + Drop;
 
-    /// There is no file of that name.
-    ghost lacks: { Self → List ℕ → Type 0 } = { λ _ _. ⊤ };
+    /// A file that was created, to be written.
+    type Created: Sink + Drop;
 
-    /// A create of that name may give this file, and leave the disk so.
-    ghost writes: { Self → List ℕ → Self.File → Self → Type 0 } = { λ _ _ _ _. ⊤ };
+    /// What it tells of its files, and its counts.
+    ghost disk: { Self → DiskState };
 
-    /// A create of that name may fail, and leave the disk so.
-    ghost refuses: { Self → List ℕ → Self → Type 0 } = { λ _ _ _. ⊤ };
+    /// A create of that name may give this file; true of every file where that is not told.
+    ghost is_created: { Self.Created → List ℕ → Type 0 } = { λ _ _. ⊤ };
 
     /// The file of that name, to be read from its start.
     ///
-    /// `Missing` where there is none, `Memory` where memory is wanting; any other refusal says that it
-    /// can't be opened.
-    fn open(&self, name: &str) -> Result<Self::File, LoadFault>
-        ensures opened { IfOk result (λ file. reads self.now name.now file) }
-        ensures missing { result ≡ Err LoadFault.Missing → lacks self.now name.now };
+    /// `Missing` where there is none, `Memory` where memory is wanting, and `Failed` where it can't be
+    /// opened, which is counted.
+    fn open(&mut self, name: &str) -> Result<Self::Opened, OpenFault>
+        ensures opened { IsOpenOf result Self.Opened.source name.now (disk self.old).files }
+        ensures asked { AskedToOpen (disk self.old) (disk self.new) }
+        ensures count { (disk self.new).failures ≡ open_count result (disk self.old).failures };
 
     /// How many bytes the file may have: a hint for how much memory to take, and nothing rests on it.
-    fn expected(&self, file: &Self::File) -> u64;
+    fn expected(&self, file: &Self::Opened) -> u64;
 
-    /// The file of that name, emptied or new, to be written from its start. `Failed` where it can't be
-    /// created.
-    fn create(&mut self, name: &str) -> Result<Self::File, Failed>
-        ensures opened { IfOk result (λ file. writes self.old name.now file self.new) }
-        ensures refused { OnErr result (refuses self.old name.now self.new) };
+    /// A file of that name without bytes, to be written from its start. `Failed` where it can't be created,
+    /// which is counted.
+    fn create(&mut self, name: &str) -> Result<Self::Created, Failed>
+        ensures created { IfOk result (λ file. is_created file name.now) }
+        ensures asked { AskedToCreate result (disk self.old) (disk self.new) };
 }

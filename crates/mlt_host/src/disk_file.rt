@@ -1,47 +1,32 @@
-//! Files and streams, read and written whole by std's read and write.
+//! Files and streams, read and written whole.
 
 ghost use Rattle.std.specs.Prelude.{◌≡◌, ℕ, ◌+◌, ◌<◌, ◌≤◌, length, take, drop, vec_len, IfOk, IfErr, OnOk, OnErr, ◌⊎◌, ◌^◌};
-ghost use Rattle.std.specs.Io.{ReadsAtMost, WritesAtMost};
-ghost use Rattle.std.specs.Io.KnownBytes.{Appends, Consumes, IsAtEnd, ReadConsumes, WriteAppends};
-ghost use Rattle.mlt_host.specs.DiskFile.{IsReadOf, IsLoadOf};
+ghost use Rattle.std.specs.Io.KnownBytes.{Consumes, IsAtEnd};
+ghost use Rattle.mlt_host.specs.Count.{port_count};
+ghost use Rattle.mlt_host.specs.Streams.{Writes};
+ghost use Rattle.mlt_host.specs.Disk.{AskedToOpen};
+ghost use Rattle.mlt_host.specs.DiskFile.{IsReadOf, IsLoadOf, IsFaultOf, read_count};
 
-use crate::{Disk, Failed, LoadFault};
+use crate::{Disk, Failed, LoadFault, OpenFault, Sink, Source};
 use std::alloc::Global;
-use std::io::{ErrorKind, Read, Write};
 
 /// How many bytes a read asks for at least, where the list has to grow for it and the limit allows.
 const CHUNK: usize = 65_536;
 
-/// One read, begun again where it was interrupted.
-fn read_some<F: Read>(file: &mut F, buffer: &mut [u8]) -> Result<usize, LoadFault>
-    ensures bound { ReadsAtMost result buffer.new }
-    ensures bytes { ReadConsumes (F.remaining file.old) (F.remaining file.new) result buffer.new }
-    ensures failed { IfErr result (λ fault. fault ≡ LoadFault.Failed) }
-{
-    for _ in 0..u64::MAX {
-        match file.read(buffer) {
-            Ok(count) => return Ok(count),
-            Err(error) if error.kind() == ErrorKind::Interrupted => {}
-            Err(_) => return Err(LoadFault::Failed),
-        }
-    }
-    Err(LoadFault::Failed)
-}
-
 /// One read into the bytes behind the first `filled`, which stay.
-fn read_behind<F: Read>(file: &mut F, bytes: &mut [u8], filled: usize) -> Result<usize, LoadFault>
+fn read_behind<F: Source>(file: &mut F, bytes: &mut [u8], filled: usize) -> Result<usize, Failed>
     requires { filled < length bytes.old }
     ensures front { take filled bytes.new ≡ take filled bytes.old }
     ensures fits { IfOk result (λ count. filled + count ≤ length bytes.new) }
-    ensures read { IfOk result (λ count. Consumes (F.remaining file.old) (F.remaining file.new) (take count (drop filled bytes.new))) }
-    ensures end { IfOk result (λ count. count ≡ 0 → IsAtEnd (F.remaining file.new)) }
-    ensures failed { IfErr result (λ fault. fault ≡ LoadFault.Failed) }
+    ensures read { IfOk result (λ count. Consumes (F.source file.old).left (F.source file.new).left (take count (drop filled bytes.new))) }
+    ensures end { IfOk result (λ count. count ≡ 0 → IsAtEnd (F.source file.new).left) }
+    ensures count { (F.source file.new).failures ≡ port_count result (F.source file.old).failures }
 {
-    read_some(file, &mut bytes[filled..])
+    file.read(&mut bytes[filled..])
 }
 
 /// Makes room for `size` bytes behind the first `filled`, which stay, and reads into it once.
-fn read_more<F: Read>(
+fn read_more<F: Source>(
     file: &mut F,
     bytes: &mut Vec<u8>,
     filled: usize,
@@ -53,14 +38,15 @@ fn read_more<F: Read>(
     ensures within { filled ≤ vec_len bytes.new }
     ensures front { take filled bytes.new.items ≡ take filled bytes.old.items }
     ensures fits { IfOk result (λ count. filled + count ≤ vec_len bytes.new) }
-    ensures read { IfOk result (λ count. Consumes (F.remaining file.old) (F.remaining file.new) (take count (drop filled bytes.new.items))) }
-    ensures end { IfOk result (λ count. count ≡ 0 → IsAtEnd (F.remaining file.new)) }
+    ensures read { IfOk result (λ count. Consumes (F.source file.old).left (F.source file.new).left (take count (drop filled bytes.new.items))) }
+    ensures end { IfOk result (λ count. count ≡ 0 → IsAtEnd (F.source file.new).left) }
     ensures fault { IfErr result (λ fault. (fault ≡ LoadFault.Failed) ⊎ (fault ≡ LoadFault.Memory)) }
+    ensures count { (F.source file.new).failures ≡ read_count result (F.source file.old).failures }
 {
     if bytes.resize(filled + size, 0).is_err() {
         return Err(LoadFault::Memory);
     }
-    read_behind(file, bytes.as_mut_slice(), filled)
+    read_behind(file, bytes.as_mut_slice(), filled).map_err(|_| LoadFault::Failed)
 }
 
 /// How many bytes the next read asks for: what the list has room for, else as many as were read
@@ -77,20 +63,21 @@ fn next_size(capacity: usize, filled: usize, left: u64) -> usize
 
 /// Reads a file to its end, which is expected to have so many bytes. `TooLarge(limit)` where it has
 /// more than `limit`, of which at most one is read; `Failed` where a read fails.
-fn read_whole<F: Read>(
+fn read_whole<F: Source>(
     alloc: Global,
     file: &mut F,
     expected: u64,
     limit: u64,
 ) -> Result<Vec<u8>, LoadFault>
-    ensures { IsReadOf result limit (F.remaining file.old) }
+    ensures answer { IsReadOf result limit (F.source file.old).left }
+    ensures count { (F.source file.new).failures ≡ read_count result (F.source file.old).failures }
 {
     let capacity = expected.min(limit).saturating_add(1) as usize;
     let Ok(mut bytes) = Vec::with_capacity(alloc, capacity) else {
         return Err(LoadFault::Memory);
     };
     let mut filled = 0usize;
-    for _ in 0..u64::MAX {
+    loop {
         let left = limit - filled as u64;
         let size = next_size(bytes.capacity(), filled, left);
         match read_more(file, &mut bytes, filled, size) {
@@ -103,60 +90,42 @@ fn read_whole<F: Read>(
             Err(fault) => return Err(fault),
         }
     }
-    Err(LoadFault::Failed)
 }
 
-/// Opens the file of that name and reads it. `Missing` where there is none.
+/// Opens the file of that name and reads it. `Missing` where there is none, `Failed` where the disk can't open
+/// it or a read fails.
 pub(crate) fn read_file<D: Disk>(
     alloc: Global,
-    disk: &D,
+    disk: &mut D,
     name: &str,
     limit: u64,
 ) -> Result<Vec<u8>, LoadFault>
-    ensures { IsLoadOf result limit (D.reads disk.now name.now) (D.lacks disk.now name.now) D.File.remaining }
+    ensures answer { IsLoadOf result name.now limit (D.disk disk.old).files }
+    ensures asked { AskedToOpen (D.disk disk.old) (D.disk disk.new) }
+    ensures fault { IsFaultOf result D.Opened.source (D.disk disk.old).failures (D.disk disk.new).failures }
 {
     match disk.open(name) {
         Ok(mut file) => {
             let expected = disk.expected(&file);
             read_whole(alloc, &mut file, expected, limit)
         }
-        Err(LoadFault::Missing) => Err(LoadFault::Missing),
-        Err(LoadFault::Memory) => Err(LoadFault::Memory),
-        Err(LoadFault::Failed | LoadFault::TooLarge(_)) => Err(LoadFault::Failed),
+        Err(OpenFault::Missing) => Err(LoadFault::Missing),
+        Err(OpenFault::Failed) => Err(LoadFault::Failed),
+        Err(OpenFault::Memory) => Err(LoadFault::Memory),
     }
 }
 
-/// One write, begun again where it was interrupted.
-fn write_some<W: Write>(to: &mut W, bytes: &[u8]) -> Result<usize, Failed>
-    ensures bound { WritesAtMost result bytes.now }
-    ensures bytes { WriteAppends (W.contents to.old) (W.contents to.new) result bytes.now }
-{
-    for _ in 0..u64::MAX {
-        match to.write(bytes) {
-            Ok(count) => return Ok(count),
-            Err(error) if error.kind() == ErrorKind::Interrupted => {}
-            Err(_) => return Err(Failed),
-        }
-    }
-    Err(Failed)
-}
-
-/// Writes all the bytes, and flushes. `Failed` where a write fails or takes nothing; a front of the bytes
-/// was then written.
-pub(crate) fn write_whole<W: Write>(to: &mut W, bytes: &[u8]) -> Result<(), Failed>
-    ensures written { OnOk result (Appends (W.contents to.old) (W.contents to.new) bytes.now) }
-    ensures front { OnErr result ((kept : ℕ) × Appends (W.contents to.old) (W.contents to.new) (take kept bytes.now)) }
+/// Writes all the bytes, and then flushes. `Failed` where a write or the flush fails; a front of the bytes was
+/// then written.
+pub(crate) fn write_whole<W: Sink>(to: &mut W, bytes: &[u8]) -> Result<(), Failed>
+    ensures { Writes result bytes.now (W.sink to.old) (W.sink to.new) }
 {
     let mut rest = bytes;
-    for _ in 0..u64::MAX {
-        if rest.is_empty() {
-            return to.flush().map_err(|_| Failed);
-        }
-        match write_some(to, rest) {
-            Ok(0) => return Err(Failed),
+    while !rest.is_empty() {
+        match to.write(rest) {
             Ok(count) => rest = &rest[count..],
             Err(Failed) => return Err(Failed),
         }
     }
-    Err(Failed)
+    to.flush()
 }

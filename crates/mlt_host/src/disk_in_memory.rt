@@ -1,48 +1,56 @@
 //! A disk in memory, for tests of what runs over a `DiskHost`.
 
-ghost use Rattle.std.specs.Prelude.{◌≡◌, [], ℕ, List, None, Some, OnOk, OnErr, IfOk};
+ghost use Rattle.std.specs.Prelude.{◌≡◌, [], ℕ, List, None, OnOk, OnErr, IfOk};
+ghost use Rattle.mlt_host.specs.Counted.{read_failures_of};
+ghost use Rattle.mlt_host.specs.DiskInMemory.{left_in};
 
-use crate::{Disk, Failed, LoadFault, files};
+use crate::calls::Calls;
+use crate::{Counted, Disk, Failed, OpenFault, Sink, files};
 use std::alloc::{AllocError, Global};
 use std::collections::BTreeMap;
-use std::io;
-use std::io::{Cursor, Read, Write};
+use std::io::Cursor;
 
 /// Files by name, which are lists of bytes.
 ///
-/// What is written to a file stays in that open file: to a later open the file is empty.
+/// A file that is created stands apart from those: what is written to it stays there, and a later open of the
+/// name gives the bytes that the disk was given under it.
 #[derive(Drop)]
 pub struct MemDisk {
     alloc: Global,
     files: BTreeMap<String, Vec<u8>>,
+    calls: Calls,
 }
 
-/// A file of such a disk that is open: the name that opened it, what is left to be read, and what was
-/// written.
+/// A file that was created on such a disk: its name, and what was written to it.
 #[derive(Drop)]
 pub struct MemFile {
     name: String,
-    left: Cursor<Vec<u8>>,
-    written: Vec<u8>,
+    written: Counted<Vec<u8>>,
+}
+
+/// These bytes as a file that is opened, with all of them left.
+fn opened(alloc: Global, bytes: &[u8]) -> Result<Counted<Cursor<Vec<u8>>>, AllocError>
+    ensures left { IfOk result (λ file. left_in file ≡ bytes.now) }
+    ensures unread { IfOk result (λ file. read_failures_of file ≡ 0) }
+{
+    Ok(Counted::new(Cursor::new(bytes.to_vec(alloc)?)))
 }
 
 impl MemFile {
-    ghost use Rattle.mlt_host.specs.DiskInMemory.{name_of, left_in, written_to};
+    ghost use Rattle.mlt_host.specs.DiskInMemory.{name_of, written_to};
 
-    /// A file of that name with these bytes left, to which nothing was written.
-    fn new(alloc: Global, name: &str, bytes: &[u8]) -> Result<MemFile, AllocError>
+    /// A file of that name, to which nothing was written.
+    fn new(alloc: Global, name: &str) -> Result<MemFile, AllocError>
         ensures name { IfOk result (λ file. name_of file ≡ name.now) }
-        ensures left { IfOk result (λ file. left_in file ≡ bytes.now) }
         ensures written { IfOk result (λ file. written_to file ≡ []) }
     {
         Ok(MemFile {
             name: String::from_str(alloc, name)?,
-            left: Cursor::new(bytes.to_vec(alloc)?),
-            written: Vec::new(alloc),
+            written: Counted::new(Vec::new(alloc)),
         })
     }
 
-    /// The name that opened the file.
+    /// The name that the file was created with.
     pub fn name(&self) -> &str
         ensures { result.now ≡ name_of self.now }
     {
@@ -53,34 +61,23 @@ impl MemFile {
     pub fn written(&self) -> &[u8]
         ensures { result.now ≡ written_to self.now }
     {
-        self.written.as_slice()
+        self.written.inner().as_slice()
     }
 }
 
-impl Read for MemFile {
-    ghost use Rattle.mlt_host.specs.DiskInMemory.{left_in};
+impl Sink for MemFile {
+    ghost use Rattle.mlt_host.specs.DiskInMemory.{mem_sink};
 
-    ghost remaining = { λ file. Some (left_in file) };
-
-    /// The next bytes of the file; it never fails.
-    fn read(&mut self, buffer: &mut [u8]) -> io::Result<usize> {
-        self.left.read(buffer)
-    }
-}
-
-impl Write for MemFile {
-    ghost use Rattle.mlt_host.specs.DiskInMemory.{written_to};
-
-    ghost contents = { λ file. Some (written_to file) };
+    ghost sink = { mem_sink };
 
     /// Keeps all the bytes; it fails where memory is wanting, and keeps none.
-    fn write(&mut self, bytes: &[u8]) -> io::Result<usize> {
+    fn write(&mut self, bytes: &[u8]) -> Result<usize, Failed> {
         self.written.write(bytes)
     }
 
     /// Nothing is left to be done.
-    fn flush(&mut self) -> io::Result<()> {
-        Ok(())
+    fn flush(&mut self) -> Result<(), Failed> {
+        self.written.flush()
     }
 }
 
@@ -95,6 +92,7 @@ impl MemDisk {
         MemDisk {
             alloc,
             files: BTreeMap::new(alloc),
+            calls: Calls::new(),
         }
     }
 
@@ -108,40 +106,35 @@ impl MemDisk {
 }
 
 impl Disk for MemDisk {
-    ghost use Rattle.mlt_host.specs.DiskInMemory.{file_on, Opens, Creates, KeepsFiles};
+    ghost use Rattle.mlt_host.specs.DiskInMemory.{mem_disk, IsCreated};
 
-    type File = MemFile;
+    type Opened = Counted<Cursor<Vec<u8>>>;
 
-    ghost reads = { λ disk name file. Opens disk name file };
+    type Created = MemFile;
 
-    ghost lacks = { λ disk name. file_on disk name ≡ None };
+    ghost disk = { mem_disk };
 
-    ghost writes = { λ old name file new. Creates old name file new };
-
-    ghost refuses = { λ old _ new. KeepsFiles old new };
+    ghost is_created = { IsCreated };
 
     /// The file of that name. `Missing` where there is none, `Memory` where memory is wanting.
-    fn open(&self, name: &str) -> Result<MemFile, LoadFault> {
-        match self.files.get(name) {
-            None => Err(LoadFault::Missing),
-            Some(bytes) => MemFile::new(self.alloc, name, bytes).map_err(|_| LoadFault::Memory),
-        }
+    fn open(&mut self, name: &str) -> Result<Counted<Cursor<Vec<u8>>>, OpenFault> {
+        let answer = match self.files.get(name) {
+            None => Err(OpenFault::Missing),
+            Some(bytes) => opened(self.alloc, bytes).map_err(|_| OpenFault::Memory),
+        };
+        self.calls.count_open(&answer);
+        answer
     }
 
     /// How many bytes are left and were read.
-    fn expected(&self, file: &MemFile) -> u64 {
-        file.left.get_ref().len() as u64
+    fn expected(&self, file: &Counted<Cursor<Vec<u8>>>) -> u64 {
+        file.inner().get_ref().len() as u64
     }
 
-    /// The file of that name, emptied or new. `Failed` where memory is wanting; all files are then as
-    /// before.
+    /// A file of that name without bytes. `Failed` where memory is wanting.
     fn create(&mut self, name: &str) -> Result<MemFile, Failed> {
-        let Ok(file) = MemFile::new(self.alloc, name, &[]) else {
-            return Err(Failed);
-        };
-        match files::give_file(self.alloc, &mut self.files, name, &[]) {
-            Ok(()) => Ok(file),
-            Err(_) => Err(Failed),
-        }
+        let created = MemFile::new(self.alloc, name).map_err(|_| Failed);
+        self.calls.count_create(&created);
+        created
     }
 }

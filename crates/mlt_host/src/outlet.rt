@@ -1,21 +1,21 @@
 //! Where the ports of a program go: nowhere, to standard output or to a file.
 
-ghost use Rattle.std.specs.Prelude.{◌≡◌, ◌≢◌, ◌↔◌, ◌⊎◌, ◌<◌, ℕ, length, take, IsTrue, IsOk, IsErr, IfSome, OnOk, OnErr, option_copied, codes};
-ghost use Rattle.std.specs.Io.KnownBytes.{Appends};
+ghost use Rattle.std.specs.Prelude.{◌≡◌, ◌≢◌, ◌↔◌, ◌⊎◌, ◌<◌, length, IsTrue, IsOk, IsErr, IfSome, OnOk, OnErr, option_copied, codes};
 ghost use Rattle.mlt_base.specs.declared.port.Port.{Port};
-ghost use Rattle.mlt_host.specs.Outlet.{NoPlace, StandardOutput, FileOf, outlet_place, outlet_file, outlet_holds, place_at, file_at, held_at, named_place, first_place, place_after};
+ghost use Rattle.mlt_host.specs.Outlet.{NoPlace, StandardOutput, FileOf, outlet_place, outlet_file, outlet_sink, place_at, file_at, sink_at, named_place, first_place, place_after};
+ghost use Rattle.mlt_host.specs.Streams.{WritesTo};
+ghost use Rattle.mlt_host.specs.Disk.{AskedToCreate};
 
 use crate::disk_file::write_whole;
 use crate::file_name::FileName;
-use crate::{Disk, Failed, Port};
-use std::io::Write;
+use crate::{Disk, Failed, Port, Sink};
 
 /// The name of standard output.
 const OUTPUT: &str = "-";
 
 /// Where the bytes of a port go.
 #[derive(Drop)]
-pub(crate) enum Sink<F> {
+pub(crate) enum Target<F> {
     /// The port was never created.
     Nowhere,
     /// Standard output.
@@ -27,7 +27,7 @@ pub(crate) enum Sink<F> {
 /// Where a port goes, and the name of its file where it goes to one.
 #[derive(Drop)]
 pub(crate) struct Outlet<F> {
-    sink: Sink<F>,
+    target: Target<F>,
     name: FileName,
 }
 
@@ -45,7 +45,7 @@ impl<F> Outlet<F> {
         ensures { outlet_place result ≡ NoPlace }
     {
         Outlet {
-            sink: Sink::Nowhere,
+            target: Target::Nowhere,
             name: FileName::empty(),
         }
     }
@@ -54,9 +54,9 @@ impl<F> Outlet<F> {
     fn has_open(&self, name: &str) -> bool
         ensures { IsTrue result ↔ (outlet_place self.now ≡ FileOf name.now) }
     {
-        match self.sink {
-            Sink::Open(_) => self.name.is(name),
-            Sink::Nowhere | Sink::Output => false,
+        match self.target {
+            Target::Open(_) => self.name.is(name),
+            Target::Nowhere | Target::Output => false,
         }
     }
 
@@ -64,9 +64,9 @@ impl<F> Outlet<F> {
     fn file(&self) -> Option<&F>
         ensures { option_copied result ≡ outlet_file self.now }
     {
-        match &self.sink {
-            Sink::Open(file) => Some(file),
-            Sink::Nowhere | Sink::Output => None,
+        match &self.target {
+            Target::Open(file) => Some(file),
+            Target::Nowhere | Target::Output => None,
         }
     }
 }
@@ -101,22 +101,23 @@ impl<F> Outlets<F> {
 /// then as before.
 fn lead<D: Disk>(
     disk: &mut D,
-    outlet: &mut Outlet<D::File>,
-    second: &Outlet<D::File>,
-    third: &Outlet<D::File>,
+    outlet: &mut Outlet<D::Created>,
+    second: &Outlet<D::Created>,
+    third: &Outlet<D::Created>,
     name: &str,
 ) -> Result<(), Failed>
     ensures ok { OnOk result (outlet_place outlet.new ≡ named_place name.now) }
     ensures err { OnErr result (outlet.new ≡ outlet.old) }
     ensures second { outlet_place second.now ≡ FileOf name.now → name.now ≢ codes "-" → IsErr result }
     ensures third { outlet_place third.now ≡ FileOf name.now → name.now ≢ codes "-" → IsErr result }
-    ensures opened { OnOk result (IfSome (outlet_file outlet.new) (λ file. D.writes disk.old name.now file disk.new)) }
-    ensures why { OnErr result (((outlet_place second.now ≡ FileOf name.now) ⊎ (outlet_place third.now ≡ FileOf name.now) ⊎ (4096 < length name.now)) × (disk.new ≡ disk.old) ⊎ D.refuses disk.old name.now disk.new) }
+    ensures opened { OnOk result (IfSome (outlet_file outlet.new) (λ file. D.is_created file name.now)) }
+    ensures once { name.now ≢ codes "-" → OnOk result (AskedToCreate result (D.disk disk.old) (D.disk disk.new)) }
+    ensures why { OnErr result (((outlet_place second.now ≡ FileOf name.now) ⊎ (outlet_place third.now ≡ FileOf name.now) ⊎ (4096 < length name.now)) × (disk.new ≡ disk.old) ⊎ AskedToCreate result (D.disk disk.old) (D.disk disk.new)) }
     ensures stdout { name.now ≡ codes "-" → IsOk result }
     ensures idle { name.now ≡ codes "-" → disk.new ≡ disk.old }
 {
     if name == OUTPUT {
-        outlet.sink = Sink::Output;
+        outlet.target = Target::Output;
         return Ok(());
     }
     if second.has_open(name) || third.has_open(name) {
@@ -127,7 +128,7 @@ fn lead<D: Disk>(
     };
     let file = disk.create(name)?;
     outlet.name = file_name;
-    outlet.sink = Sink::Open(file);
+    outlet.target = Target::Open(file);
     Ok(())
 }
 
@@ -137,7 +138,7 @@ fn lead<D: Disk>(
 /// went before.
 pub(crate) fn create<D: Disk>(
     disk: &mut D,
-    outlets: &mut Outlets<D::File>,
+    outlets: &mut Outlets<D::Created>,
     port: Port,
     name: &str,
 ) -> Result<(), Failed>
@@ -148,8 +149,9 @@ pub(crate) fn create<D: Disk>(
     ensures others { (other : Port) → other ≢ port → place_at outlets.new other ≡ place_at outlets.old other }
     ensures files { (other : Port) → other ≢ port → file_at outlets.new other ≡ file_at outlets.old other }
     ensures apart { (other : Port) → other ≢ port → port ≢ Port.Text → name.now ≢ codes "-" → place_at outlets.old other ≡ FileOf name.now → IsErr result }
-    ensures opened { OnOk result (IfSome (file_at outlets.new port) (λ file. D.writes disk.old name.now file disk.new)) }
-    ensures why { OnErr result ((((other : Port) × (other ≢ port) × (place_at outlets.old other ≡ FileOf name.now)) ⊎ (4096 < length name.now)) × (disk.new ≡ disk.old) ⊎ D.refuses disk.old name.now disk.new) }
+    ensures opened { OnOk result (IfSome (file_at outlets.new port) (λ file. D.is_created file name.now)) }
+    ensures once { port ≢ Port.Text → name.now ≢ codes "-" → OnOk result (AskedToCreate result (D.disk disk.old) (D.disk disk.new)) }
+    ensures why { OnErr result ((((other : Port) × (other ≢ port) × (place_at outlets.old other ≡ FileOf name.now)) ⊎ (4096 < length name.now)) × (disk.new ≡ disk.old) ⊎ AskedToCreate result (D.disk disk.old) (D.disk disk.new)) }
     ensures idle { name.now ≡ codes "-" → disk.new ≡ disk.old }
     ensures idle_text { port ≡ Port.Text → disk.new ≡ disk.old }
 {
@@ -179,29 +181,27 @@ pub(crate) fn create<D: Disk>(
     }
 }
 
-/// Writes all the bytes to where the outlet goes. `Failed` where that is nowhere, and where a write
-/// fails; a front of the bytes was then written.
-fn write_to<F: Write, O: Write>(
+/// Writes all the bytes to where the outlet goes, and flushes that. `Failed` where that is nowhere, and where a
+/// write or the flush fails; a front of the bytes was then written.
+fn write_to<F: Sink, O: Sink>(
     outlet: &mut Outlet<F>,
     stdout: &mut O,
     bytes: &[u8],
 ) -> Result<(), Failed>
-    ensures nowhere { outlet_place outlet.old ≡ NoPlace → IsErr result }
     ensures place { outlet_place outlet.new ≡ outlet_place outlet.old }
-    ensures written { OnOk result (Appends (outlet_holds F.contents (O.contents stdout.old) outlet.old) (outlet_holds F.contents (O.contents stdout.new) outlet.new) bytes.now) }
-    ensures front { OnErr result ((kept : ℕ) × Appends (outlet_holds F.contents (O.contents stdout.old) outlet.old) (outlet_holds F.contents (O.contents stdout.new) outlet.new) (take kept bytes.now)) }
+    ensures written { WritesTo result bytes.now (outlet_sink F.sink (O.sink stdout.old) outlet.old) (outlet_sink F.sink (O.sink stdout.new) outlet.new) }
     ensures stdout { outlet_place outlet.old ≢ StandardOutput → stdout.new ≡ stdout.old }
 {
-    match &mut outlet.sink {
-        Sink::Nowhere => Err(Failed),
-        Sink::Output => write_whole(stdout, bytes),
-        Sink::Open(file) => write_whole(file, bytes),
+    match &mut outlet.target {
+        Target::Nowhere => Err(Failed),
+        Target::Output => write_whole(stdout, bytes),
+        Target::Open(file) => write_whole(file, bytes),
     }
 }
 
-/// Writes all the bytes to where the port goes; `Text` goes to standard error. `Failed` where the port
-/// was never created, and where a write fails; a front of the bytes was then written.
-pub(crate) fn append<F: Write, O: Write, E: Write>(
+/// Writes all the bytes to where the port goes, and flushes that; `Text` goes to standard error. `Failed` where
+/// the port was never created, and where a write or the flush fails; a front of the bytes was then written.
+pub(crate) fn append<F: Sink, O: Sink, E: Sink>(
     outlets: &mut Outlets<F>,
     stdout: &mut O,
     stderr: &mut E,
@@ -210,8 +210,7 @@ pub(crate) fn append<F: Write, O: Write, E: Write>(
 ) -> Result<(), Failed>
     ensures nowhere { place_at outlets.old port ≡ NoPlace → IsErr result }
     ensures places { (each : Port) → place_at outlets.new each ≡ place_at outlets.old each }
-    ensures written { OnOk result (Appends (held_at F.contents (O.contents stdout.old) (E.contents stderr.old) outlets.old port) (held_at F.contents (O.contents stdout.new) (E.contents stderr.new) outlets.new port) bytes.now) }
-    ensures front { OnErr result ((kept : ℕ) × Appends (held_at F.contents (O.contents stdout.old) (E.contents stderr.old) outlets.old port) (held_at F.contents (O.contents stdout.new) (E.contents stderr.new) outlets.new port) (take kept bytes.now)) }
+    ensures written { WritesTo result bytes.now (sink_at F.sink (O.sink stdout.old) (E.sink stderr.old) outlets.old port) (sink_at F.sink (O.sink stdout.new) (E.sink stderr.new) outlets.new port) }
     ensures files { (other : Port) → other ≢ port → file_at outlets.new other ≡ file_at outlets.old other }
     ensures stdout { place_at outlets.old port ≢ StandardOutput → stdout.new ≡ stdout.old }
     ensures stderr { port ≢ Port.Text → stderr.new ≡ stderr.old }

@@ -3,7 +3,7 @@ use Rattle.std.proofs.Common.{◌≡◌, ℕ, ◌*◌, ◌/◌, ◌%◌, ◌<◌
 use Rattle.std.proofs.lemmas.List.{get_or-take, get_or_append_left}
 use Rattle.std.proofs.lemmas.List.FromFn.{get_or-map-range_with_len, length-map-range_with_len}
 use Rattle.mlt_base.specs.Mixing.{table}
-use Rattle.mlt_image.specs.Kept.{across_at, row_of, IsRow, AreRows}
+use Rattle.mlt_image.specs.Kept.{across_at, kept_row, IsRow, AreRows}
 use Rattle.mlt_image.specs.declared.rows.Row.{Row}
 use Rattle.mlt_image.specs.declared.rows.Rows.{Rows}
 use Rattle.mlt_image.proofs.Mixes.{weighed_most}
@@ -34,20 +34,20 @@ is_row pixels width places y mixed rest e = record { each = λ z same k lt. at z
       ∙ ap (λ i. across_at pixels width places i k) same
 
 -- the row of any number, of two that are as they should be
-pub row_is : (pixels : List ℕ) (width : ℕ) (places : List ℕ) (rows : Rows) (y : ℕ) → AreRows pixels width places rows → IsRow pixels width places (row_of rows y)
+pub row_is : (pixels : List ℕ) (width : ℕ) (places : List ℕ) (rows : Rows) (y : ℕ) → AreRows pixels width places rows → IsRow pixels width places (kept_row rows y)
 row_is pixels width places rows y are = by (y % 2 == 0) where
   by : (even : Bool) → IsRow pixels width places (if even then rows.even else rows.odd)
   by true = are.even
   by false = are.odd
 
 -- value k of such a row that has its number
-pub row_at : (pixels : List ℕ) (width : ℕ) (places : List ℕ) (rows : Rows) (row : Row) (y k : ℕ) → AreRows pixels width places rows → row ≡ row_of rows y → (row_of rows y).y ≡ Some y
+pub row_at : (pixels : List ℕ) (width : ℕ) (places : List ℕ) (rows : Rows) (row : Row) (y k : ℕ) → AreRows pixels width places rows → row ≡ kept_row rows y → (kept_row rows y).y ≡ Some y
     → k < length places * 4 → get_or (take (length places * 4) row.values) k 0 ≡ across_at pixels width places y k
 row_at pixels width places rows row y k are is named lt =
     get_or-take (length places * 4) row.values k 0 lt ∙ ap (λ (r : Row). get_or r.values k 0) is ∙ (row_is pixels width places rows y are).each y named k lt
 
 -- it is at most 255 in 65536ths
-pub row_most : (pixels : List ℕ) (width : ℕ) (places : List ℕ) (rows : Rows) (row : Row) (y : ℕ) → AreRows pixels width places rows → row ≡ row_of rows y → (row_of rows y).y ≡ Some y
+pub row_most : (pixels : List ℕ) (width : ℕ) (places : List ℕ) (rows : Rows) (row : Row) (y : ℕ) → AreRows pixels width places rows → row ≡ kept_row rows y → (kept_row rows y).y ≡ Some y
     → ((i : ℕ) → get_or pixels i 0 ≤ 255) → (k : ℕ) → k < length (take (length places * 4) row.values) → get_or (take (length places * 4) row.values) k 0 ≤ 16711680
 row_most pixels width places rows row y are is named small k lt =
     let within : k < length places * 4 = omega (arith, length-take (length places * 4) row.values) in

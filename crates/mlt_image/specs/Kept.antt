@@ -18,8 +18,8 @@ stretched_row pixels width height places place k =
     down (place % 65536) (across_at pixels width places (place / 65536) k) (across_at pixels width places (next height place) k)
 
 -- the row that is kept where row y of a source is
-abbrev pub row_of : Rows → ℕ → Row
-row_of rows y = if y % 2 == 0 then rows.even else rows.odd
+abbrev pub kept_row : Rows → ℕ → Row
+kept_row rows y = if y % 2 == 0 then rows.even else rows.odd
 
 -- the first values are those of the row that is named, where one is
 pub record IsRow (pixels : List ℕ) (width : ℕ) (places : List ℕ) (row : Row) : Type 0 where

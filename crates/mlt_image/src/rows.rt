@@ -5,7 +5,7 @@
 
 ghost use Rattle.std.specs.Prelude.{◌≡◌, ◌≢◌, ℕ, ◌+◌, ◌-◌, ◌*◌, ◌/◌, ◌%◌, ◌<◌, ◌≤◌, List, length, slice_index, Some};
 ghost use Rattle.mlt_base.specs.Mixing.{table};
-ghost use Rattle.mlt_image.specs.Kept.{across_at, row_of, IsRow, AreRows, stretched_row};
+ghost use Rattle.mlt_image.specs.Kept.{across_at, kept_row, IsRow, AreRows, stretched_row};
 
 use crate::stretch::{across, down};
 use mlt_base::limits::MOST_PIXELS;
@@ -73,7 +73,7 @@ impl Rows {
 
     /// The row that is kept where row `y` is.
     fn row(&self, y: usize) -> &Row
-        ensures { result.now ≡ row_of self.now y }
+        ensures { result.now ≡ kept_row self.now y }
     {
         if y % 2 == 0 { &self.even } else { &self.odd }
     }
@@ -86,8 +86,8 @@ impl Rows {
         requires few { length places.now ≤ 4096 }
         requires kept { AreRows pixels.now width places.now self.old }
         ensures kept { AreRows pixels.now width places.now self.new }
-        ensures named { (row_of self.new y).y ≡ Some y }
-        ensures other { (z : ℕ) → z % 2 ≢ y % 2 → row_of self.new z ≡ row_of self.old z }
+        ensures named { (kept_row self.new y).y ≡ Some y }
+        ensures other { (z : ℕ) → z % 2 ≢ y % 2 → kept_row self.new z ≡ kept_row self.old z }
     {
         if y % 2 == 0 {
             self.even.keep(pixels, width, y, places);

@@ -33,3 +33,11 @@ digits_halved n m some half = by (binary_digits n) (below n) where
   by : (d : ℕ) → n < 2 ^ d → binary_digits m + 1 ≤ d
   by zero h = absurd (omega arith)
   by (suc d) h = omega (arith, digits_least m d (omega (arith, pow_more 2 d)))
+
+-- at most one more than twice a number has at most a digit more
+pub digits_doubled : (n m : ℕ) → n ≤ m + m + 1 → binary_digits n ≤ binary_digits m + 1
+digits_doubled n m twice = digits_least n (binary_digits m + 1) (omega (arith, below m, pow_more 2 (binary_digits m)))
+
+-- one more has no fewer digits
+pub digits_more : (n : ℕ) → binary_digits n ≤ binary_digits (n + 1)
+digits_more n = digits_least n (binary_digits (n + 1)) (omega (arith, below (n + 1)))

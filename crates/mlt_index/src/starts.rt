@@ -6,7 +6,7 @@ ghost use Rattle.mlt_index.specs.Digits.{binary_digits};
 ghost use Rattle.mlt_index.specs.Starts.{replaced};
 
 use crate::ends::{make_room, rewrite, start_at};
-use crate::search::index_of;
+use crate::search::{Counted, index_of};
 use mlt_base::{Pos, Steps};
 use std::alloc::{AllocError, Global};
 use std::marker::Model;
@@ -79,15 +79,20 @@ impl Starts {
     /// The index of the entry that a position falls into, and the place in it; `None` exactly where the
     /// position isn't below the sum.
     ///
-    /// A step is one comparison of the position with a start. There are at most as many as the count
-    /// has binary digits, and one.
+    /// A step is one comparison of the position with a start. There are as many as the count has binary
+    /// digits, or one fewer.
     pub fn find(&self, at: Pos, steps: &mut Steps) -> Option<(usize, Pos)>
         requires { steps.old < 2 ^ 62 }
         ensures found { option_map (λ x. (x.0, x.1.0)) result ≡ walk self.now at.0 }
         ensures counted { steps.old ≤ steps.new }
-        ensures few { steps.new ≤ steps.old + binary_digits (length self.now) + 1 }
+        ensures few { steps.new ≤ steps.old + binary_digits (length self.now) }
+        ensures least { steps.old + binary_digits (length self.now) ≤ steps.new + 1 }
     {
-        let index = index_of(&self.ends, at.0, steps);
+        let mut ends = Counted {
+            ends: &self.ends,
+            steps,
+        };
+        let index = index_of(&mut ends, at.0);
         if index == self.ends.len() {
             return None;
         }

@@ -1,9 +1,9 @@
 -- The mixture of two bytes, from the lesser one upwards.
 use Rattle.std.proofs.Common.{◌≡◌, ℕ, ◌+◌, ◌-◌, ◌*◌, ◌/◌, ◌≤◌, ap, arith}
-use Rattle.mlt_base.specs.Mixing.{mixed}
+use Rattle.mlt_base.specs.Mixing.{blended}
 
 -- from the lesser x upwards by the share of z
-pub raised_up : (x z q low gap r : ℕ) → q ≤ 65536 → low ≡ x → z ≡ x + gap → r ≡ (gap * q + 32768) / 65536 → low + r ≡ mixed q x z
+pub raised_up : (x z q low gap r : ℕ) → q ≤ 65536 → low ≡ x → z ≡ x + gap → r ≡ (gap * q + 32768) / 65536 → low + r ≡ blended q x z
 raised_up x z q low gap r few is up share =
     let p : ℕ = 65536 - q in
     let whole : p + q ≡ 65536 = omega arith in
@@ -12,7 +12,7 @@ raised_up x z q low gap r few is up share =
     omega arith
 
 -- from the lesser z upwards by the share of x
-pub raised_down : (x z q p low gap r : ℕ) → p + q ≡ 65536 → low ≡ z → x ≡ z + gap → r ≡ (gap * p + 32768) / 65536 → low + r ≡ mixed q x z
+pub raised_down : (x z q p low gap r : ℕ) → p + q ≡ 65536 → low ≡ z → x ≡ z + gap → r ≡ (gap * p + 32768) / 65536 → low + r ≡ blended q x z
 raised_down x z q p low gap r all is up share =
     let rest : 65536 - q ≡ p = omega arith in
     let whole : z * (p + q) ≡ z * 65536 = ap (λ s. z * s) all in
@@ -21,9 +21,9 @@ raised_down x z q p low gap r all is up share =
     omega arith
 
 -- the whole of z
-pub mixed_whole : (q x z : ℕ) → q ≡ 65536 → z ≡ mixed q x z
+pub mixed_whole : (q x z : ℕ) → q ≡ 65536 → z ≡ blended q x z
 mixed_whole q x z e = rw e (omega arith)
 
 -- nothing of z
-pub mixed_none : (q x z : ℕ) → q ≡ 0 → x ≡ mixed q x z
+pub mixed_none : (q x z : ℕ) → q ≡ 0 → x ≡ blended q x z
 mixed_none q x z e = rw e (omega arith)

@@ -1,7 +1,7 @@
 //! One picture dissolved into another.
 
 ghost use Rattle.std.specs.Prelude.{◌≡◌, ◌+◌, ◌≤◌, length};
-ghost use Rattle.mlt_base.specs.Mixing.{table, mixed, dissolved};
+ghost use Rattle.mlt_base.specs.Mixing.{table, blended, dissolved};
 
 use crate::share::share_of;
 use mlt_base::Q16;
@@ -27,14 +27,14 @@ fn dissolve_partly(dst: &mut [u8], src: &[u8], q: u16, p: u16)
     ensures { dst.new ≡ table (length dst.old) (dissolved q dst.old src.now) }
 {
     for i in 0..dst.len() {
-        dst[i] = mixed(q, p, dst[i], src[i]);
+        dst[i] = blended(q, p, dst[i], src[i]);
     }
 }
 
 /// A byte of both: the lesser one, and of the gap to the other one the share that is its own.
-fn mixed(q: u16, p: u16, x: u8, z: u8) -> u8
+fn blended(q: u16, p: u16, x: u8, z: u8) -> u8
     requires { p + q ≡ 65536 }
-    ensures { result ≡ mixed q x z }
+    ensures { result ≡ blended q x z }
 {
     let low = x.min(z);
     let gap = x.max(z) - low;

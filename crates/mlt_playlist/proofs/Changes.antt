@@ -15,7 +15,7 @@ use Rattle.mlt_tree.specs.declared.entry.Entry.{Entry}
 use Rattle.mlt_tree.specs.declared.entry.Entry.TheVariants.{Clip, Gap}
 use Rattle.mlt_tree.specs.declared.tree.Attached.{Attached}
 use Rattle.mlt_tree.specs.Edits as edit
-use Rattle.mlt_tree.specs.Edits.{Edit, frames_in, grown, replaced}
+use Rattle.mlt_tree.specs.Edits.{Edited, frames_in, grown, replaced}
 use Rattle.mlt_tree.specs.Ranges.{IsAttached, IsEntry, frames}
 use Rattle.mlt_playlist.specs.Changed.{is_within, resized, with_filter}
 use Rattle.mlt_playlist.specs.Playlist.{Does, IsCounted, IsIndexed, IsList}
@@ -57,7 +57,7 @@ attach-is : (es : List Entry) (at : ℕ) (unit : UnitId) (s : Span) (filters : L
 attach-is es at unit s filters filter there = rw (there, edit.attach) refl
 
 -- what a change of the entry at an index leaves
-pub record IsChanged (edited : Edit (Unit {0})) (now : List Entry) (all : ℕ) : Type 0 where
+pub record IsChanged (edited : Edited (Unit {0})) (now : List Entry) (all : ℕ) : Type 0 where
   pub counted : IsCounted now all
   pub does : edited ≡ Ok (tt {0}, now)
 
@@ -153,6 +153,6 @@ module _ (es : List Entry) (ns : List ℕ) (at : ℕ) (x : Entry) (first last co
       }
 
 -- a fault that is passed on
-pub does_fault : {A : Type 0} (edited : Edit A) (old : List Entry) (fault : PlayFault) (r : Result A (Try PlayFault)) → IsErrAnd r (λ e. e ≡ Fault fault) → edited ≡ Err fault → Does edited old old r
+pub does_fault : {A : Type 0} (edited : Edited A) (old : List Entry) (fault : PlayFault) (r : Result A (Try PlayFault)) → IsErrAnd r (λ e. e ≡ Fault fault) → edited ≡ Err fault → Does edited old old r
 does_fault edited old fault (Ok x) is refused = absurd is
 does_fault edited old fault (Err e) is refused = subst (λ f. Does edited old old (Err f)) (sym is) (refused, refl)

@@ -4,12 +4,12 @@ use Rattle.std.proofs.lemmas.Option.{slice_get_read}
 use Rattle.std.proofs.lemmas.List.Elements.{All-nil}
 use Rattle.std.proofs.lemmas.List.{set_split, drop_more}
 use Rattle.mlt_tree.specs.declared.entry.Entry.{Entry}
-use Rattle.mlt_tree.specs.Edits.{Edit, replaced, with_entry, frames_in}
+use Rattle.mlt_tree.specs.Edits.{Edited, replaced, with_entry, frames_in}
 use Rattle.mlt_tree.specs.Ranges.{IsEntry, frames}
 use Rattle.mlt_playlist.specs.Playlist.{IsCounted}
 use Rattle.mlt_playlist.proofs.Counts.{counted-smaller, frames_in-part, All-one}
 
-module _ {A : Type 0} (es : List Entry) (at : ℕ) (act : Entry → Edit A) where
+module _ {A : Type 0} (es : List Entry) (at : ℕ) (act : Entry → Edited A) where
   pub with_entry-there : (e : Entry) → at < length es → e ≡ get_or es at e → with_entry es at act ≡ act e
   with_entry-there e inside is = let there = slice_get_read es (length es) at e refl inside is in rw (there, with_entry) refl
 

@@ -12,7 +12,7 @@ use Rattle.mlt_base.specs.declared.value.UnitId.{UnitId}
 use Rattle.mlt_tree.specs.declared.entry.Entry.{Entry}
 use Rattle.mlt_tree.specs.declared.entry.Entry.TheVariants.{Clip, Gap}
 use Rattle.mlt_tree.specs.declared.tree.Attached.{Attached}
-use Rattle.mlt_tree.specs.Edits.{before_gap, frames_in, merged, without_last_gap}
+use Rattle.mlt_tree.specs.Edits.{before_gap, frames_in, gaps_merged, without_last_gap}
 use Rattle.mlt_tree.specs.Ranges.{IsEntry, frames}
 use Rattle.mlt_playlist.specs.Playlist.{IsList}
 use Rattle.mlt_playlist.specs.Gaps.{both_gaps, pushed, pushed_at}
@@ -28,10 +28,10 @@ before-pushed (Gap n) (Gap m ∷ z ∷ es) e = refl
 before-pushed (Gap n) (Clip u s fs ∷ z ∷ es) e = refl
 
 -- one more entry
-pub merged-push : (es : List Entry) (e : Entry) → merged (es ++ e ∷ []) ≡ pushed (merged es) e
+pub merged-push : (es : List Entry) (e : Entry) → gaps_merged (es ++ e ∷ []) ≡ pushed (gaps_merged es) e
 merged-push [] (Clip u s fs) = refl
 merged-push [] (Gap n) = refl
-merged-push (x ∷ es) e = ap (before_gap x) (merged-push es e) ∙ before-pushed x (merged es) e
+merged-push (x ∷ es) e = ap (before_gap x) (merged-push es e) ∙ before-pushed x (gaps_merged es) e
 
 -- behind a last one
 pub pushed-both : (es : List Entry) (a b : Entry) (n : ℕ) → both_gaps a b ≡ Some n → pushed (es ++ a ∷ []) b ≡ es ++ Gap n ∷ []
@@ -54,9 +54,9 @@ frames_in-before (Gap n) [] = sum_by-cons frames (Gap n) []
 frames_in-before (Gap n) (Gap m ∷ es) = omega (arith, sum_by-cons frames (Gap (n + m)) es, sum_by-cons frames (Gap m) es)
 frames_in-before (Gap n) (Clip u s fs ∷ es) = sum_by-cons frames (Gap n) (Clip u s fs ∷ es)
 
-pub frames_in-merged : (es : List Entry) → frames_in (merged es) ≡ frames_in es
+pub frames_in-merged : (es : List Entry) → frames_in (gaps_merged es) ≡ frames_in es
 frames_in-merged [] = refl
-frames_in-merged (e ∷ es) = omega (arith, frames_in-before e (merged es), frames_in-merged es, sum_by-cons frames e es)
+frames_in-merged (e ∷ es) = omega (arith, frames_in-before e (gaps_merged es), frames_in-merged es, sum_by-cons frames e es)
 
 length-before : (e : Entry) (es : List Entry) → length (before_gap e es) ≤ length es + 1
 length-before (Clip u s fs) es = omega arith
@@ -64,9 +64,9 @@ length-before (Gap n) [] = omega arith
 length-before (Gap n) (Gap m ∷ es) = omega arith
 length-before (Gap n) (Clip u s fs ∷ es) = omega arith
 
-pub length-merged : (es : List Entry) → length (merged es) ≤ length es
+pub length-merged : (es : List Entry) → length (gaps_merged es) ≤ length es
 length-merged [] = omega arith
-length-merged (e ∷ es) = omega (arith, length-before e (merged es), length-merged es)
+length-merged (e ∷ es) = omega (arith, length-before e (gaps_merged es), length-merged es)
 
 entries-before : (e : Entry) (es : List Entry) → IsEntry e → All IsEntry es → All IsEntry (before_gap e es)
 entries-before (Clip u s fs) es is all = All-cons IsEntry (Clip u s fs) es is all
@@ -74,10 +74,10 @@ entries-before (Gap n) [] is all = All-cons IsEntry (Gap n) [] is all
 entries-before (Gap n) (Gap m ∷ es) is all = All-cons IsEntry (Gap (n + m)) es (omega arith) (All-tail IsEntry (Gap m) es all)
 entries-before (Gap n) (Clip u s fs ∷ es) is all = All-cons IsEntry (Gap n) (Clip u s fs ∷ es) is all
 
-pub entries-merged : (es : List Entry) → All IsEntry es → All IsEntry (merged es)
+pub entries-merged : (es : List Entry) → All IsEntry es → All IsEntry (gaps_merged es)
 entries-merged [] all = All-nil IsEntry
 entries-merged (e ∷ es) all =
-    entries-before e (merged es) (All-head IsEntry e es all) (entries-merged es (All-tail IsEntry e es all))
+    entries-before e (gaps_merged es) (All-head IsEntry e es all) (entries-merged es (All-tail IsEntry e es all))
 
 -- a gap at the end goes, and a clip stays
 pub without-gap : (es : List Entry) (n : ℕ) → without_last_gap (es ++ Gap n ∷ []) ≡ es
@@ -128,15 +128,15 @@ front-none es now kept at a b some count inside last is none after =
     new ∙ append_assoc (take (kept - 1) es) (a ∷ []) (b ∷ []) ∙ sym (ap (λ l. pushed l (get_or es at (Gap 0))) old ∙ ap (pushed (take (kept - 1) es ++ a ∷ [])) entry ∙ pushed-none (take (kept - 1) es) a b none)
 
 -- one entry more at the front
-pub front-more : (old now new : List Entry) (kept kept' at : ℕ) → at < length old → take kept now ≡ merged (take at old) → drop at now ≡ drop at old
-    → take kept' new ≡ pushed_at (take kept now) now at → take kept' new ≡ merged (take (at + 1) old)
+pub front-more : (old now new : List Entry) (kept kept' at : ℕ) → at < length old → take kept now ≡ gaps_merged (take at old) → drop at now ≡ drop at old
+    → take kept' new ≡ pushed_at (take kept now) now at → take kept' new ≡ gaps_merged (take (at + 1) old)
 front-more old now new kept kept' at inside front rest step =
     let entry : get_or now at (Gap 0) ≡ get_or old at (Gap 0) =
     sym (get_or-drop at now 0 (Gap 0) ∙ ap (λ k. get_or now k (Gap 0)) (omega arith)) ∙ ap (λ l. get_or l 0 (Gap 0)) rest ∙ get_or-drop at old 0 (Gap 0) ∙ ap (λ k. get_or old k (Gap 0)) (omega arith) in
-    step ∙ ap (λ l. pushed l (get_or now at (Gap 0))) front ∙ ap (pushed (merged (take at old))) entry
-    ∙ sym (ap merged (take_more old at (Gap 0) inside) ∙ merged-push (take at old) (get_or old at (Gap 0)))
+    step ∙ ap (λ l. pushed l (get_or now at (Gap 0))) front ∙ ap (pushed (gaps_merged (take at old))) entry
+    ∙ sym (ap gaps_merged (take_more old at (Gap 0) inside) ∙ merged-push (take at old) (get_or old at (Gap 0)))
 
-pub front-short : (old now : List Entry) (kept at : ℕ) → take kept now ≡ merged (take at old) → drop at now ≡ drop at old → frames_in (take kept now) + frames_in (drop at now) ≡ frames_in old
+pub front-short : (old now : List Entry) (kept at : ℕ) → take kept now ≡ gaps_merged (take at old) → drop at now ≡ drop at old → frames_in (take kept now) + frames_in (drop at now) ≡ frames_in old
 front-short old now kept at front rest =
     omega (arith, ap frames_in front, ap frames_in rest, frames_in-merged (take at old), sum_by-take-drop frames old at)
 
@@ -180,7 +180,7 @@ entries-without (Gap n ∷ e ∷ es) all =
 entries-without (Clip u s fs ∷ es) all =
     All-cons IsEntry (Clip u s fs) (without_last_gap es) (All-head IsEntry (Clip u s fs) es all) (entries-without es (All-tail IsEntry (Clip u s fs) es all))
 
-pub list-merged : (es now : List Entry) → IsList es → now ≡ merged es → IsList now
+pub list-merged : (es now : List Entry) → IsList es → now ≡ gaps_merged es → IsList now
 list-merged es now list after =
     rw after (record {
       entries = entries-merged es list.entries;

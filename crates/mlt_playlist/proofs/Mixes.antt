@@ -11,7 +11,7 @@ use Rattle.mlt_base.specs.declared.faults.PlayFault.TheVariants.{TooFew}
 use Rattle.mlt_tree.specs.declared.entry.Entry.{Entry}
 use Rattle.mlt_tree.specs.declared.entry.Entry.TheVariants.{Gap}
 use Rattle.mlt_tree.specs.Edits as edit
-use Rattle.mlt_tree.specs.Edits.{Edit, Mixed, frames_in, grown, replaced, cut, clip, mixed_of, mix}
+use Rattle.mlt_tree.specs.Edits.{Edited, Mixed, frames_in, grown, replaced, cut, clip, mixed_of, mix}
 use Rattle.mlt_tree.specs.Ranges.{IsAttached, IsEntry, frames}
 use Rattle.mlt_playlist.specs.Overlaps.{without_first, without_last}
 use Rattle.mlt_playlist.specs.Place.{entry_at, sized}

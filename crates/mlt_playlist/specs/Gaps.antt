@@ -2,7 +2,7 @@
 use Rattle.std.specs.Prelude.{ℕ, ◌+◌, ◌≡◌, List, [], ◌∷◌, ◌++◌, map, take, drop, Option, None, Some, slice_index_or}
 use Rattle.mlt_tree.specs.declared.entry.Entry.{Entry}
 use Rattle.mlt_tree.specs.declared.entry.Entry.TheVariants.{Clip, Gap}
-use Rattle.mlt_tree.specs.Edits.{before_gap, merged}
+use Rattle.mlt_tree.specs.Edits.{before_gap, gaps_merged}
 use Rattle.mlt_tree.specs.Ranges.{frames}
 
 -- the frames of two gaps together
@@ -29,5 +29,5 @@ first_gap (Clip unit s filters ∷ es) = 0
 
 -- the numbers of frames of a list whose gaps are merged from an index on, and those of the gap there
 pub record IsMergedFrom (es : List Entry) (at : ℕ) (ns : List ℕ) (n : ℕ) : Type 0 where
-  pub starts : ns ≡ map frames (take at es ++ merged (drop at es))
-  pub behind : n ≡ first_gap (merged (drop at es))
+  pub starts : ns ≡ map frames (take at es ++ gaps_merged (drop at es))
+  pub behind : n ≡ first_gap (gaps_merged (drop at es))

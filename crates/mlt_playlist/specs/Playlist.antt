@@ -6,7 +6,7 @@ use Rattle.mlt_base.specs.declared.refusal.Try.{Try}
 use Rattle.mlt_base.specs.declared.refusal.Try.TheVariants.{Fault, Memory}
 use Rattle.mlt_base.specs.declared.limits.TheConstants.{MOST_ENTRIES}
 use Rattle.mlt_tree.specs.declared.entry.Entry.{Entry}
-use Rattle.mlt_tree.specs.Edits.{Edit, frames_in, grown}
+use Rattle.mlt_tree.specs.Edits.{Edited, frames_in, grown}
 use Rattle.mlt_tree.specs.Ranges.{IsEntry, frames}
 
 -- the entries of a playlist: each in its range, not too many, and not too many frames
@@ -27,13 +27,13 @@ pub record IsCounted (es : List Entry) (frames : ℕ) : Type 0 where
 
 -- a call does an edit: it gives the edit's answer and leaves its list, or gives its refusal and leaves
 -- the list as it was, as it also does where memory is wanted
-abbrev pub Does : {A : Type 0} → Edit A → (old new : List Entry) → Result A (Try PlayFault) → Type 0
+abbrev pub Does : {A : Type 0} → Edited A → (old new : List Entry) → Result A (Try PlayFault) → Type 0
 Does edit old new (Ok x) = edit ≡ Ok (x, new)
 Does edit old new (Err (Fault fault)) = (edit ≡ Err fault) × (new ≡ old)
 Does edit old new (Err Memory) = new ≡ old
 
 -- a call that takes no memory does an edit
-abbrev pub DoesAlways : {A : Type 0} → Edit A → (old new : List Entry) → Result A PlayFault → Type 0
+abbrev pub DoesAlways : {A : Type 0} → Edited A → (old new : List Entry) → Result A PlayFault → Type 0
 DoesAlways edit old new (Ok x) = edit ≡ Ok (x, new)
 DoesAlways edit old new (Err fault) = (edit ≡ Err fault) × (new ≡ old)
 

@@ -2,7 +2,7 @@
 
 ghost use Rattle.std.specs.Prelude.{◌≡◌, ◌+◌, ◌≤◌, ◌<◌, ◌^◌, length, map, take, drop};
 ghost use Rattle.mlt_tree.specs.Edits as edit;
-ghost use Rattle.mlt_tree.specs.Edits.{frames_in, merged, without_last_gap};
+ghost use Rattle.mlt_tree.specs.Edits.{frames_in, gaps_merged, without_last_gap};
 ghost use Rattle.mlt_tree.specs.Ranges.{frames};
 ghost use Rattle.mlt_playlist.specs.Gaps.{IsMergedFrom, both_gaps, pushed_at};
 ghost use Rattle.mlt_playlist.specs.Playlist.{Does, IsIndexed, IsList};
@@ -48,7 +48,7 @@ fn keep_one(entries: &mut [Entry], kept: usize, at: usize) -> usize
 /// Makes neighbouring gaps one, brings what is left to the front, and gives how many entries it is.
 fn merge_front(entries: &mut [Entry]) -> usize
     requires { frames_in entries.old < 2 ^ 31 }
-    ensures merged { take result entries.new ≡ merged entries.old }
+    ensures merged { take result entries.new ≡ gaps_merged entries.old }
     ensures len { length entries.new ≡ length entries.old }
 {
     let mut kept = 0;
@@ -61,7 +61,7 @@ fn merge_front(entries: &mut [Entry]) -> usize
 /// Makes neighbouring gaps one.
 fn merge(entries: &mut Vec<Entry>)
     requires { frames_in entries.old.items < 2 ^ 31 }
-    ensures { entries.new.items ≡ merged entries.old.items }
+    ensures { entries.new.items ≡ gaps_merged entries.old.items }
 {
     let kept = merge_front(entries);
     entries.truncate(kept);
@@ -87,7 +87,7 @@ fn merge_start(starts: &mut Starts, entries: &[Entry], at: usize, behind: u32) -
 /// Puts the numbers of neighbouring gaps as one.
 fn merge_starts(starts: &mut Starts, entries: &[Entry])
     requires { IsIndexed entries.now starts.old }
-    ensures { starts.new ≡ map frames (merged entries.now) }
+    ensures { starts.new ≡ map frames (gaps_merged entries.now) }
 {
     let mut behind = 0;
     let mut at = entries.len();

@@ -2,8 +2,9 @@
 
 ghost use Rattle.std.specs.Prelude.{◌≡◌, ℕ, ◌*◌, ◌<◌, ◌≤◌, ◌++◌, length, slice_index, Ok, IfOk, OnOk};
 ghost use Rattle.mlt_base.specs.Try.{TryGives};
-ghost use Rattle.mlt_base.specs.Ppm.{sample_size, picture, ppm};
-ghost use Rattle.mlt_ppm.specs.View.{numbers_of};
+ghost use Rattle.mlt_base.specs.Ppm.{Numbers as Exact, sample_size, picture, ppm};
+ghost use Rattle.mlt_base.specs.declared.limits.TheConstants.{MOST_SAMPLE};
+ghost use Rattle.mlt_ppm.specs.View.{numbers_of, held_numbers};
 ghost use Rattle.mlt_ppm.specs.Written.{header_text, colours, ppm_text, IsOpaque};
 
 use crate::header::{Numbers, header};
@@ -29,19 +30,20 @@ fn picture(alloc: Global, numbers: Numbers, raster: &[u8]) -> Result<Still, Try<
     requires width { 1 ≤ numbers.width }
     requires height { 1 ≤ numbers.height }
     requires from_one { 1 ≤ numbers.maxval }
-    requires to_most { numbers.maxval ≤ 65535 }
-    ensures { TryGives (λ s. s) result (picture (numbers_of numbers) raster.now) }
+    requires to_most { numbers.maxval ≤ MOST_SAMPLE }
+    ensures { (n : Exact) → held_numbers n ≡ numbers_of numbers → TryGives (λ s. s) result (picture n raster.now) }
 {
-    if MOST_PIXELS < numbers.width || MOST_PIXELS < numbers.height {
+    if u64::from(MOST_PIXELS) < numbers.width || u64::from(MOST_PIXELS) < numbers.height {
         return Err(Try::Fault(PpmFault::TooLarge));
     }
-    let count = numbers.width as usize * numbers.height as usize;
+    let (width, height) = (numbers.width as u32, numbers.height as u32);
+    let count = width as usize * height as usize;
     let needed = count * 3 * sample_size(numbers.maxval);
     if raster.len() < needed {
         return Err(Try::Fault(PpmFault::Short(raster.len() as u64, needed as u64)));
     }
     let pixels = pixels(alloc, &Scale::new(numbers.maxval), raster, count)?;
-    Ok(Still::from_pixels(numbers.width, numbers.height, pixels))
+    Ok(Still::from_pixels(width, height, pixels))
 }
 
 /// Reads a binary PPM file. Each alpha is 255.

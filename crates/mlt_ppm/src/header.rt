@@ -1,21 +1,40 @@
 //! The header of a PPM file: three numbers, each behind white space or comments.
 
-ghost use Rattle.std.specs.Prelude.{◌≡◌, ◌+◌, ◌^◌, ◌<◌, ◌≤◌, false, length, drop, IfOk, IsTrue};
+ghost use Rattle.std.specs.Prelude.{◌≡◌, ℕ, ◌+◌, ◌^◌, ◌<◌, ◌≤◌, true, false, length, drop, IfOk, IsTrue};
 ghost use Rattle.mlt_base.specs.Try.{Gives};
 ghost use Rattle.mlt_base.specs.Ppm.{is_white, is_line_end, blank_count, number_at, field_at, white_at, header};
-ghost use Rattle.mlt_ppm.specs.View.{numbers_of};
+ghost use Rattle.mlt_base.specs.declared.limits.TheConstants.{MOST_SAMPLE};
+ghost use Rattle.mlt_ppm.specs.View.{held, allowed, held_field, held_header, numbers_of};
 
 use mlt_base::PpmFault;
+use mlt_base::limits::MOST_SAMPLE;
 use mlt_base::reading::{digit_count, number};
 
 /// What a header says: the picture's measures in pixels, the greatest sample, and the place where the
-/// raster begins. A number of 65536 stands for any that is at least that.
+/// raster begins. The greatest number stands for any measure that is at least that.
 #[derive(Clone, Copy)]
 pub(crate) struct Numbers {
-    pub(crate) width: u32,
-    pub(crate) height: u32,
+    pub(crate) width: u64,
+    pub(crate) height: u64,
     pub(crate) maxval: u32,
     pub(crate) end: usize,
+}
+
+/// A number of a header: a width or a height, or the greatest sample.
+#[derive(Clone, Copy)]
+enum Field {
+    Side,
+    Depth,
+}
+
+/// Whether a field may have the number, which stands for any that is at least that where it is the greatest.
+fn is_allowed(field: Field, value: u64) -> bool
+    ensures { (n : ℕ) → held n ≡ value → result ≡ allowed field n }
+{
+    match field {
+        Field::Side => 1 <= value,
+        Field::Depth => 1 <= value && value <= u64::from(MOST_SAMPLE),
+    }
 }
 
 /// Whether the byte is white space.
@@ -52,35 +71,35 @@ fn blank_count(bytes: &[u8]) -> usize
     count
 }
 
-/// A number from 1 to the limit at a place, and the place behind it.
+/// A number that is allowed at a place, and the place behind it.
 #[tactic(auto, unfolding(mlt_base::specs::Ppm::number_at))]
-fn number_at(limit: u32, at: usize, bytes: &[u8]) -> Result<(u32, usize), PpmFault>
+fn number_at(field: Field, at: usize, bytes: &[u8]) -> Result<(u64, usize), PpmFault>
     requires { at + length bytes.now < 2 ^ 63 }
-    ensures value { result ≡ number_at limit at bytes.now }
+    ensures value { result ≡ held_field (number_at (allowed field) at bytes.now) }
     ensures place { IfOk result (λ f. f.1 ≤ at + length bytes.now) }
-    ensures range { IfOk result (λ f. (1 ≤ f.0) × (f.0 ≤ limit)) }
+    ensures fits { IfOk result (λ f. allowed field f.0 ≡ true) }
 {
     let count = digit_count(bytes);
-    let value = number(&bytes[..count]).min(65536) as u32;
-    if count == 0 || value == 0 || limit < value {
+    let value = number(&bytes[..count]);
+    if count == 0 || !is_allowed(field, value) {
         return Err(PpmFault::BadHeader(at as u64));
     }
     Ok((value, at + count))
 }
 
-/// A separator from a place on and a number from 1 to the limit behind it, and the place behind both.
+/// A separator from a place on and a number that is allowed behind it, and the place behind both.
 #[tactic(auto, unfolding(mlt_base::specs::Ppm::field_at))]
-fn field_at(limit: u32, at: usize, bytes: &[u8]) -> Result<(u32, usize), PpmFault>
+fn field_at(field: Field, at: usize, bytes: &[u8]) -> Result<(u64, usize), PpmFault>
     requires { at + length bytes.now < 2 ^ 63 }
-    ensures value { result ≡ field_at limit at bytes.now }
+    ensures value { result ≡ held_field (field_at (allowed field) at bytes.now) }
     ensures place { IfOk result (λ f. f.1 ≤ at + length bytes.now) }
-    ensures range { IfOk result (λ f. (1 ≤ f.0) × (f.0 ≤ limit)) }
+    ensures fits { IfOk result (λ f. allowed field f.0 ≡ true) }
 {
     let count = blank_count(bytes);
     if count == 0 {
         return Err(PpmFault::BadHeader(at as u64));
     }
-    number_at(limit, at + count, &bytes[count..])
+    number_at(field, at + count, &bytes[count..])
 }
 
 /// The one byte of white space that stands before the raster.
@@ -99,18 +118,18 @@ fn white_at(at: usize, bytes: &[u8]) -> Result<(), PpmFault>
 #[tactic(auto, unfolding(mlt_base::specs::Ppm::header))]
 pub(crate) fn header(bytes: &[u8]) -> Result<Numbers, PpmFault>
     requires { 2 ≤ length bytes.now }
-    ensures value { Gives numbers_of result (header bytes.now) }
+    ensures value { Gives numbers_of result (held_header (header bytes.now)) }
     ensures place { IfOk result (λ h. h.end ≤ length bytes.now) }
-    ensures range { IfOk result (λ h. (1 ≤ h.width) × (1 ≤ h.height) × (1 ≤ h.maxval) × (h.maxval ≤ 65535)) }
+    ensures range { IfOk result (λ h. (1 ≤ h.width) × (1 ≤ h.height) × (1 ≤ h.maxval) × (h.maxval ≤ MOST_SAMPLE)) }
 {
-    let (width, end) = field_at(65536, 2, &bytes[2..])?;
-    let (height, end) = field_at(65536, end, &bytes[end..])?;
-    let (maxval, end) = field_at(65535, end, &bytes[end..])?;
+    let (width, end) = field_at(Field::Side, 2, &bytes[2..])?;
+    let (height, end) = field_at(Field::Side, end, &bytes[end..])?;
+    let (maxval, end) = field_at(Field::Depth, end, &bytes[end..])?;
     white_at(end, &bytes[end..])?;
     Ok(Numbers {
         width,
         height,
-        maxval,
+        maxval: maxval as u32,
         end: end + 1,
     })
 }

@@ -3,6 +3,7 @@
 ghost use Rattle.std.specs.Prelude.{◌≡◌, ℕ, ◌+◌, ◌*◌, ◌/◌, ◌%◌, ◌^◌, ◌<◌, ◌≤◌, [], ◌∷◌, length, slice_index, map, IfOk};
 ghost use Rattle.std.specs.List.{range_with_len};
 ghost use Rattle.std.specs.Simd.Lanes.{put_chunk};
+ghost use Rattle.mlt_base.specs.declared.limits.TheConstants.{MOST_SAMPLE};
 ghost use Rattle.mlt_base.specs.Ppm.{eight_bits, sample_size, pixel_byte, raster_pixels, needed};
 
 use std::alloc::{AllocError, Global};
@@ -17,14 +18,14 @@ pub(crate) struct Scale {
     pub(crate) maxval: u32,
     values: [u8; 256],
     ghost from_one: { 1 ≤ maxval },
-    ghost to_most: { maxval ≤ 65535 },
+    ghost to_most: { maxval ≤ MOST_SAMPLE },
     ghost made: { values ≡ map (eight_bits maxval) (range_with_len 0 256) },
 }
 
 /// A sample as a byte.
 fn eight_bits(maxval: u32, v: u32) -> u8
     requires from_one { 1 ≤ maxval }
-    requires to_most { maxval ≤ 65535 }
+    requires to_most { maxval ≤ MOST_SAMPLE }
     ensures { result ≡ eight_bits maxval v }
 {
     ((v.min(maxval) * 255 + maxval / 2) / maxval) as u8
@@ -33,7 +34,7 @@ fn eight_bits(maxval: u32, v: u32) -> u8
 /// The byte of each sample of one byte.
 fn values_of(maxval: u32) -> [u8; 256]
     requires from_one { 1 ≤ maxval }
-    requires to_most { maxval ≤ 65535 }
+    requires to_most { maxval ≤ MOST_SAMPLE }
     ensures { result ≡ map (eight_bits maxval) (range_with_len 0 256) }
 {
     let mut values = [0u8; 256];
@@ -47,7 +48,7 @@ impl Scale {
     /// The scale of a greatest sample.
     pub(crate) fn new(maxval: u32) -> Scale
         requires from_one { 1 ≤ maxval }
-        requires to_most { maxval ≤ 65535 }
+        requires to_most { maxval ≤ MOST_SAMPLE }
         ensures { result.maxval ≡ maxval }
     {
         Scale {

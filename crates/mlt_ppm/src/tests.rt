@@ -72,6 +72,20 @@ fn read_rows(rt: HostRuntime) {
     }
 }
 
+/// Each fault, once.
+#[test]
+fn each_fault_is_told(rt: HostRuntime) {
+    let rows = [
+        (b"P3 1 1 255 ".as_slice(), PpmFault::NotP6),
+        (b"P6 1 1 0 ", PpmFault::BadHeader(7)),
+        (b"P6 1 4097 255 ", PpmFault::TooLarge),
+        (b"P6 1 1 255 \x0a\x14", PpmFault::Short(2, 3)),
+    ];
+    for (bytes, wanted) in rows {
+        assert_eq!(rt; found(&read(rt.alloc(), bytes)), fault(wanted), "{bytes:?}");
+    }
+}
+
 #[test]
 fn cut_at_every_byte(rt: HostRuntime) {
     let file = b"P6 1 1 255\n\x0a\x14\x1e";

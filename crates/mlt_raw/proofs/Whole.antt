@@ -5,7 +5,7 @@ use Rattle.std.proofs.Math.ListN.{drop_of_length-le}
 use Rattle.std.proofs.lemmas.List.{length-map, length-replicate, length-take-le, append-nil, take-map, drop-map}
 use Rattle.std.specs.List.{refill, length_refill}
 use Rattle.std.specs.declared.alloc.Global.{Global}
-use Rattle.mlt_raw.specs.Block.{IsWhole}
+use Rattle.mlt_raw.specs.Block.{IsWholeBlock}
 use Rattle.mlt_raw.specs.Places.{somes}
 use Rattle.mlt_raw.specs.Lends.{with_slots, spliced}
 use Rattle.mlt_raw.specs.declared.cells.Base.{Base}
@@ -17,7 +17,7 @@ map-append : {X Y : Type 0} (f : X → Y) (xs ys : List X) → map f xs ++ map f
 map-append f [] ys = λ i. map f ys
 map-append f (x ∷ xs) ys = ap (λ l. f x ∷ l) (map-append f xs ys)
 
-module _ (base : Base ℕ) (size : ℕ) (cells : Cells ℕ) (deed : Deed ℕ Global) (alloc : Global) (h : IsWhole base size cells deed alloc) where
+module _ (base : Base ℕ) (size : ℕ) (cells : Cells ℕ) (deed : Deed ℕ Global) (alloc : Global) (h : IsWholeBlock base size cells deed alloc) where
   abbrev bytes : List ℕ
   bytes = somes cells.slots
 
@@ -61,7 +61,7 @@ module _ (base : Base ℕ) (size : ℕ) (cells : Cells ℕ) (deed : Deed ℕ Glo
       slots_are = ap (λ l. map Some new ++ l) ((λ i. drop (zero-add len i) (h.full i)) ∙ drop-map Some len bytes) ∙ map-append Some new (drop len bytes)
 
       -- the block that is written to is whole
-      pub whole_written : IsWhole base size (with_slots cells slots) deed alloc
+      pub whole_written : IsWholeBlock base size (with_slots cells slots) deed alloc
       whole_written = record {
         together = h.together;
         full = slots_are ∙ ap (λ l. map Some l) (sym (somes-map (new ++ drop len bytes)) ∙ ap somes (sym slots_are));
@@ -80,7 +80,7 @@ module _ (base : Base ℕ) (size : ℕ) (cells : Cells ℕ) (deed : Deed ℕ Glo
 
 -- places that all hold the byte x, and the right to free them, are a block
 pub whole_new : (base : Base ℕ) (size : ℕ) (cells : Cells ℕ) (deed : Deed ℕ Global) (alloc : Global) (x : ℕ) → cells.at ≡ base.ptr → deed.at ≡ base.ptr → deed.len ≡ size → deed.alloc ≡ alloc
-    → cells.slots ≡ replicate size (Some x) → size ≤ 2 ^ 28 → IsWhole base size cells deed alloc
+    → cells.slots ≡ replicate size (Some x) → size ≤ 2 ^ 28 → IsWholeBlock base size cells deed alloc
 whole_new base size cells deed alloc x here there as_long by full few = record {
   together = (here, there, as_long, by);
   full = full ∙ all_filled size x ∙ ap (λ l. map Some (somes l)) (sym full);

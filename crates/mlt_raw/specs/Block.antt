@@ -6,7 +6,7 @@ use Rattle.mlt_raw.specs.declared.cells.Base.{Base}
 use Rattle.mlt_raw.specs.declared.cells.Cells.{Cells}
 use Rattle.mlt_raw.specs.declared.cells.Deed.{Deed}
 
-pub record IsWhole (base : Base ℕ) (size : ℕ) (cells : Cells ℕ) (deed : Deed ℕ Global) (alloc : Global) : Type 0 where
+pub record IsWholeBlock (base : Base ℕ) (size : ℕ) (cells : Cells ℕ) (deed : Deed ℕ Global) (alloc : Global) : Type 0 where
   -- the places and the right to free them are those at the base
   pub together : (cells.at ≡ base.ptr) × (deed.at ≡ base.ptr) × (deed.len ≡ size) × (deed.alloc ≡ alloc)
   -- each place holds a byte

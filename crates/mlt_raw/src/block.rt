@@ -26,11 +26,11 @@ impl Model for RawBlock {
     ghost Value = { List ℕ };
 
     ghost use Rattle.mlt_raw.specs.Places.{somes};
-    ghost use Rattle.mlt_raw.specs.Block.{IsWhole};
+    ghost use Rattle.mlt_raw.specs.Block.{IsWholeBlock};
 
     ghost view = { λ b. somes b.cells.slots };
 
-    ghost invariant = { λ b. IsWhole b.base b.size b.cells b.deed b.alloc };
+    ghost invariant = { λ b. IsWholeBlock b.base b.size b.cells b.deed b.alloc };
 }
 
 impl RawBlock {

@@ -5,7 +5,7 @@ use Rattle.std.proofs.lemmas.List.Elements.{All-nil, All-cons, All-append, All-c
 use Rattle.std.specs.List.{AllByRecursion, flat_map, list_any, Contains}
 use Rattle.mlt_frame.specs.declared.op.Op.{Op}
 use Rattle.mlt_frame.specs.declared.op.Op.TheVariants.{Load, Absent, Filter, Merge, Keep}
-use Rattle.mlt_frame.specs.Fits.{Fits}
+use Rattle.mlt_frame.specs.Fits.{FitsRegisters}
 use Rattle.mlt_tree.specs.declared.filter.FilterStep.{FilterStep}
 use Rattle.mlt_tree.specs.declared.merge.MergeSpec.{MergeSpec}
 use Rattle.mlt_tree.specs.declared.merge.MergeSpec.TheVariants.{Luma, Composite, Matte, Mix, Sum}
@@ -25,7 +25,7 @@ use Rattle.mlt_tree.specs.Tree.{Tree, Parts, Tracks, Src, Blank, Part, Seq, With
 use Rattle.mlt_tree.specs.Units.{hide_of, track_tree, IsOnTracks}
 use Rattle.mlt_start.specs.Code.{merges_at, moves, acts, has_after, ends_in, highest, higher, row_ops, plant_ops, keep_ops, planted_row, planted_rows, code, code_in, rows_code, filter_ops, with_filters, load_of, or_absent}
 use Rattle.mlt_start.specs.Found.{row_code}
-use Rattle.mlt_start.specs.Names.{IsSource, NamesOnly, Names}
+use Rattle.mlt_frame.specs.Names.{IsSource, NamesOnly, Names}
 use Rattle.mlt_start.proofs.Meant.{length-rows}
 use Rattle.mlt_start.proofs.Planted.{IsPlanted, ArePlantedParts, ArePlantedTracks}
 
@@ -220,9 +220,9 @@ row_code-few v units track is n w =
 
 -- they add one register to b, of k
 abbrev pub Takes : (k b : ℕ) → List Op → Type 0
-Takes k b ops = (more : List Op) → Fits k (b + 1) more → Fits k b (ops ++ more)
+Takes k b ops = (more : List Op) → FitsRegisters k (b + 1) more → FitsRegisters k b (ops ++ more)
 
-room-left : (k b : ℕ) (ops : List Op) → Fits k b ops → b ≤ k
+room-left : (k b : ℕ) (ops : List Op) → FitsRegisters k b ops → b ≤ k
 room-left k b [] h = h.1
 room-left k b (Load source at ∷ ops) h = h.1
 room-left k b (Absent ∷ ops) h = h.1
@@ -230,47 +230,47 @@ room-left k b (Filter depth step ∷ ops) h = h.1
 room-left k b (Merge a c step ∷ ops) h = omega (arith, h.1)
 room-left k b (Keep row count ∷ ops) h = h.1
 
-filter-takes : (k n depth : ℕ) (t : Bool) (step : FilterStep) (more : List Op) → depth < n → Fits k n more → Fits k n (cond t (Filter depth step ∷ []) [] ++ more)
+filter-takes : (k n depth : ℕ) (t : Bool) (step : FilterStep) (more : List Op) → depth < n → FitsRegisters k n more → FitsRegisters k n (cond t (Filter depth step ∷ []) [] ++ more)
 filter-takes k n depth true step more inside h = (inside, room-left k n more h, h)
 filter-takes k n depth false step more inside h = h
 
-filters-take : (k b n : ℕ) (filters : List Attached) (more : List Op) → Fits k (b + 1) more → Fits k (b + 1) (flat_map (filter_ops n) filters ++ more)
+filters-take : (k b n : ℕ) (filters : List Attached) (more : List Op) → FitsRegisters k (b + 1) more → FitsRegisters k (b + 1) (flat_map (filter_ops n) filters ++ more)
 filters-take k b n [] more h = h
 filters-take k b n (f ∷ filters) more h =
-    subst (Fits k (b + 1)) (sym (append_assoc (filter_ops n f) (flat_map (filter_ops n) filters) more)) (filter-takes k (b + 1) 0 (holds f.span n) (filter_step f.spec (passed f.span n)) (flat_map (filter_ops n) filters ++ more) (omega arith) (filters-take k b n filters more h))
+    subst (FitsRegisters k (b + 1)) (sym (append_assoc (filter_ops n f) (flat_map (filter_ops n) filters) more)) (filter-takes k (b + 1) 0 (holds f.span n) (filter_step f.spec (passed f.span n)) (flat_map (filter_ops n) filters ++ more) (omega arith) (filters-take k b n filters more h))
 
 with_filters-take : (k b n : ℕ) (filters : List Attached) (ops : List Op) → Takes k b ops → Takes k b (with_filters n filters ops)
 with_filters-take k b n filters ops takes more h =
-    subst (Fits k b) (sym (append_assoc ops (flat_map (filter_ops n) filters) more)) (takes (flat_map (filter_ops n) filters ++ more) (filters-take k b n filters more h))
+    subst (FitsRegisters k b) (sym (append_assoc ops (flat_map (filter_ops n) filters) more)) (takes (flat_map (filter_ops n) filters ++ more) (filters-take k b n filters more h))
 
 -- plants leave as many
-merge-takes : (k n i j : ℕ) (t : Bool) (step : MergeStep) (more : List Op) → i < n → j < n → i ≢ j → n < k → Fits k n more → Fits k n (cond t (Merge i j step ∷ []) [] ++ more)
+merge-takes : (k n i j : ℕ) (t : Bool) (step : MergeStep) (more : List Op) → i < n → j < n → i ≢ j → n < k → FitsRegisters k n more → FitsRegisters k n (cond t (Merge i j step ∷ []) [] ++ more)
 merge-takes k n i j true step more first second apart room h = ((first, second, apart), room, h)
 merge-takes k n i j false step more first second apart room h = h
 
-plant-takes : (v : Medium) (n k l count : ℕ) (plant : Plant) (more : List Op) → count ≤ l → l < k → IsOnTracks count plant → Fits k l more → Fits k l (plant_ops v n count plant ++ more)
+plant-takes : (v : Medium) (n k l count : ℕ) (plant : Plant) (more : List Op) → count ≤ l → l < k → IsOnTracks count plant → FitsRegisters k l more → FitsRegisters k l (plant_ops v n count plant ++ more)
 plant-takes v n k l count (OnTrack track spec span) more all room on h =
     filter-takes k l (count - 1 - track) (holds span n) (filter_step spec (passed span n)) more (omega (arith, all, on)) h
 plant-takes v n k l count (Between a b spec span) more all room on h =
     merge-takes k l (count - 1 - a) (count - 1 - b) (merges_at v n spec span) (merge_step spec (passed span n) (span_frames span)) more
     (omega (arith, all, on.0)) (omega (arith, all, on.1)) (λ same. on.2 (omega (arith, on.0, on.1, same))) room h
 
-plants-take : (v : Medium) (n k l count : ℕ) (plants : List Plant) (more : List Op) → count ≤ l → l < k → AllByRecursion (IsOnTracks count) plants → Fits k l more → Fits k l (flat_map (plant_ops v n count) plants ++ more)
+plants-take : (v : Medium) (n k l count : ℕ) (plants : List Plant) (more : List Op) → count ≤ l → l < k → AllByRecursion (IsOnTracks count) plants → FitsRegisters k l more → FitsRegisters k l (flat_map (plant_ops v n count) plants ++ more)
 plants-take v n k l count [] more all room on h = h
 plants-take v n k l count (plant ∷ plants) more all room on h =
-    subst (Fits k l) (sym (append_assoc (plant_ops v n count plant) (flat_map (plant_ops v n count) plants) more))
+    subst (FitsRegisters k l) (sym (append_assoc (plant_ops v n count plant) (flat_map (plant_ops v n count) plants) more))
     (plant-takes v n k l count plant (flat_map (plant_ops v n count) plants ++ more) all room on.0 (plants-take v n k l count plants more all room on.1 h))
 
 -- of so many that were added one stays
-keep-takes : (k b l count row : ℕ) (more : List Op) → l ≡ b + count → l ≤ k → row < count → Fits k (b + 1) more → Fits k l (keep_ops count row ++ more)
+keep-takes : (k b l count row : ℕ) (more : List Op) → l ≡ b + count → l ≤ k → row < count → FitsRegisters k (b + 1) more → FitsRegisters k l (keep_ops count row ++ more)
 keep-takes k b l count row more is room inside h = by (ltb 1 count) refl where
-  by : (t : Bool) → ltb 1 count ≡ t → Fits k l (cond t (Keep row count ∷ []) [] ++ more)
+  by : (t : Bool) → ltb 1 count ≡ t → FitsRegisters k l (cond t (Keep row count ∷ []) [] ++ more)
   by true test =
       let left : b + 1 ≡ l - count + 1 = omega (arith, is) in
-      ((inside, omega (arith, is)), room, subst (λ m. Fits k m more) left h)
+      ((inside, omega (arith, is)), room, subst (λ m. FitsRegisters k m more) left h)
   by false test =
       let left : b + 1 ≡ l = omega (arith, is, inside, ltb-false 1 count test) in
-      subst (λ m. Fits k m more) left h
+      subst (λ m. FitsRegisters k m more) left h
 
 -- a row adds one register
 row-takes : (w : Bool) (k b : ℕ) (c : Option (List Op)) → b ≤ k → Where (Takes k b) c → Takes k b (cond w (or_absent c) (Absent ∷ []))
@@ -296,8 +296,8 @@ mutual
       let act : List Op = flat_map (plant_ops v n (length cs)) plants in
       let keep : List Op = keep_ops (length cs) row in
       let l : ℕ = b + length cs in
-      subst (Fits k b) (sym (append_assoc (row_ops wanted 0 cs) (act ++ keep) more))
-      (row_ops-take v k b l wanted 0 tracks is.1 n ((act ++ keep) ++ more) (omega (arith, long)) (omega (arith, h)) (subst (Fits k l) (sym (append_assoc act keep more))
+      subst (FitsRegisters k b) (sym (append_assoc (row_ops wanted 0 cs) (act ++ keep) more))
+      (row_ops-take v k b l wanted 0 tracks is.1 n ((act ++ keep) ++ more) (omega (arith, long)) (omega (arith, h)) (subst (FitsRegisters k l) (sym (append_assoc act keep more))
       (plants-take v n k l (length cs) plants (keep ++ more) (omega arith) (omega (arith, h, some, long)) on
       (keep-takes k b l (length cs) row more refl (omega (arith, h, long)) inside fits)))))
       (rows-take v k b tracks is.1 n (omega (arith, h)))
@@ -314,12 +314,12 @@ mutual
       (where-cond (Takes k b) (hides v hide) None (code v t n) tt (code-takes v k b t is.0 n (omega (arith, h))))
 
   row_ops-take : (v : Medium) (k b l : ℕ) (wanted : ℕ → Bool) (from : ℕ) (tracks : Tracks) → ArePlantedTracks tracks → (n : ℕ) (more : List Op) → l ≡ b + tracks_in tracks → b + (tracks_in tracks + need_of_rows tracks) ≤ k
-      → Fits k l more → Fits k b (row_ops wanted from (rows_code v tracks n) ++ more)
-  row_ops-take v k b l wanted from NoTrack is n more e h fits = let none : l ≡ b = omega (arith, e) in subst (λ m. Fits k m more) none fits
+      → FitsRegisters k l more → FitsRegisters k b (row_ops wanted from (rows_code v tracks n) ++ more)
+  row_ops-take v k b l wanted from NoTrack is n more e h fits = let none : l ≡ b = omega (arith, e) in subst (λ m. FitsRegisters k m more) none fits
   row_ops-take v k b l wanted from (Track t hide tracks) is n more e h fits =
       let c : Option (List Op) = cond (hides v hide) None (code v t n) in
       let rest : List Op = row_ops wanted (from + 1) (rows_code v tracks n) in
-      subst (Fits k b) (sym (append_assoc (cond (wanted from) (or_absent c) (Absent ∷ [])) rest more))
+      subst (FitsRegisters k b) (sym (append_assoc (cond (wanted from) (or_absent c) (Absent ∷ [])) rest more))
       (row-takes (wanted from) k b c (omega (arith, h)) (where-cond (Takes k b) (hides v hide) None (code v t n) tt (code-takes v k b t is.0 n (omega (arith, h)))) (rest ++ more)
       (row_ops-take v k (b + 1) l wanted (from + 1) tracks is.1 n more (omega (arith, e)) (omega (arith, h)) fits))
 
@@ -332,11 +332,11 @@ filled-few k (Some ops) some h = h
 pub or_absent-few : (v : Medium) (t : Tree) → IsPlanted t → (n : ℕ) → length (or_absent (code v t n)) ≤ ops t
 or_absent-few v t is n = filled-few (ops t) (code v t n) (some-ops t is) (code-few v t is n)
 
-filled-fits : (k : ℕ) (c : Option (List Op)) → 1 ≤ k → Where (Takes k 0) c → Fits k 0 (or_absent c)
+filled-fits : (k : ℕ) (c : Option (List Op)) → 1 ≤ k → Where (Takes k 0) c → FitsRegisters k 0 (or_absent c)
 filled-fits k None some h = (tt, omega arith, (refl, some))
-filled-fits k (Some ops) some h = subst (Fits k 0) (append-nil ops) (h [] (refl, some))
+filled-fits k (Some ops) some h = subst (FitsRegisters k 0) (append-nil ops) (h [] (refl, some))
 
-pub or_absent-fits : (v : Medium) (t : Tree) → IsPlanted t → (n : ℕ) → Fits (need t) 0 (or_absent (code v t n))
+pub or_absent-fits : (v : Medium) (t : Tree) → IsPlanted t → (n : ℕ) → FitsRegisters (need t) 0 (or_absent (code v t n))
 or_absent-fits v t is n = filled-fits (need t) (code v t n) (some-need t is) (code-takes v (need t) 0 t is n (omega arith))
 
 -- ---- what holds of each operation

@@ -9,3 +9,4 @@ mod UnitTrees
 mod Walked
 mod Having
 mod Plans
+mod Made

@@ -17,7 +17,7 @@ use Rattle.mlt_tree.specs.declared.tree.Plant.TheVariants.{OnTrack, Between}
 use Rattle.mlt_tree.specs.Acting.{holds, passed, span_frames, filter_step, merge_step}
 use Rattle.mlt_tree.specs.Meaning.{rows, shown, planted, merged_into}
 use Rattle.mlt_tree.specs.Medium.{Pictures, makes, hides}
-use Rattle.mlt_tree.specs.Needs.{presence, alone, joined, or_none, row_sets, needs, needs_in, needs_of_rows}
+use Rattle.mlt_tree.specs.Needs.{presence, alone, rows_joined, or_none, row_sets, needs, needs_in, needs_of_rows}
 use Rattle.mlt_tree.specs.Sizes.{tracks_in}
 use Rattle.mlt_tree.specs.Tree.{Tree, Parts, Tracks, Src, Blank, Part, Seq, With, Rows, End, Then, NoTrack, Track, len}
 use Rattle.mlt_tree.specs.Units.{IsOnTracks}
@@ -96,7 +96,7 @@ same-filter true sets k = ap (set sets k) (unfiltered (get_or sets k None)) ∙ 
 same-filter false sets k = refl
 
 -- a merge joins them
-any-joined : (j : ℕ) (under : Option (List ℕ)) (above : List ℕ) → list_any (nat_eq j) (joined under above) ≡ (list_any (nat_eq j) (or_none under) || list_any (nat_eq j) above)
+any-joined : (j : ℕ) (under : Option (List ℕ)) (above : List ℕ) → list_any (nat_eq j) (rows_joined under above) ≡ (list_any (nat_eq j) (or_none under) || list_any (nat_eq j) above)
 any-joined j None above = refl
 any-joined j (Some under) above = list_any-append (nat_eq j) under above
 
@@ -122,12 +122,12 @@ module _ (a b : ℕ) (apart : a ≢ b) where
     by false is = refl
 
   module _ (sets : List (Option (List ℕ))) (has : ℕ → Bool) (into : ℕ → ℕ) (a_in : a < length sets) (b_in : b < length sets) (are : AreIn sets has into) where
-    merged-in : (z : List ℕ) → get_or sets b None ≡ Some z → AreIn (merged_into joined a b sets (Some z)) has (λ j. cond (nat_eq (into j) b) a (into j))
+    merged-in : (z : List ℕ) → get_or sets b None ≡ Some z → AreIn (merged_into rows_joined a b sets (Some z)) has (λ j. cond (nat_eq (into j) b) a (into j))
     merged-in z some j r =
-        ap (λ x. list_any (nat_eq j) (or_none x)) (get-moved joined a b sets z r a_in b_in)
+        ap (λ x. list_any (nat_eq j) (or_none x)) (get-moved rows_joined a b sets z r a_in b_in)
         ∙ by (nat_eq r b) refl (nat_eq r a) refl where
           by : (to_b : Bool) → nat_eq r b ≡ to_b → (to_a : Bool) → nat_eq r a ≡ to_a
-              → list_any (nat_eq j) (or_none (cond to_b None (cond to_a (Some (joined (get_or sets a None) z)) (get_or sets r None)))) ≡ (has j && nat_eq (cond (nat_eq (into j) b) a (into j)) r)
+              → list_any (nat_eq j) (or_none (cond to_b None (cond to_a (Some (rows_joined (get_or sets a None) z)) (get_or sets r None)))) ≡ (has j && nat_eq (cond (nat_eq (into j) b) a (into j)) r)
           by true is_b to_a is_a =
               none-in_b (has j) (into j) ∙ ap (λ k. has j && nat_eq (cond (nat_eq (into j) b) a (into j)) k) (sym (eqb-true r b is_b))
           by false is_b true is_a =
@@ -138,14 +138,14 @@ module _ (a b : ℕ) (apart : a ≢ b) where
               ∙ ap (λ k. has j && nat_eq (cond (nat_eq (into j) b) a (into j)) k) (sym (eqb-true r a is_a))
           by false is_b false is_a = are j r ∙ ap (λ t. has j && t) (others-in (into j) r is_b is_a)
 
-    merge-in : (t : Bool) → AreIn (cond t (merged_into joined a b sets (get_or sets b None)) sets) has (λ j. cond ((t && get_or (map is_some sets) b false) && nat_eq (into j) b) a (into j))
+    merge-in : (t : Bool) → AreIn (cond t (merged_into rows_joined a b sets (get_or sets b None)) sets) has (λ j. cond ((t && get_or (map is_some sets) b false) && nat_eq (into j) b) a (into j))
     merge-in false = are
     merge-in true = by (get_or sets b None) refl where
-      by : (o : Option (List ℕ)) → get_or sets b None ≡ o → AreIn (merged_into joined a b sets o) has (λ j. cond (get_or (map is_some sets) b false && nat_eq (into j) b) a (into j))
+      by : (o : Option (List ℕ)) → get_or sets b None ≡ o → AreIn (merged_into rows_joined a b sets o) has (λ j. cond (get_or (map is_some sets) b false && nat_eq (into j) b) a (into j))
       by None is =
           subst (λ h. AreIn sets has (λ j. cond (h && nat_eq (into j) b) a (into j))) (sym (get-has sets b ∙ ap is_some is)) are
       by (Some z) is =
-          subst (λ h. AreIn (merged_into joined a b sets (Some z)) has (λ j. cond (h && nat_eq (into j) b) a (into j))) (sym (get-has sets b ∙ ap is_some is)) (merged-in z is)
+          subst (λ h. AreIn (merged_into rows_joined a b sets (Some z)) has (λ j. cond (h && nat_eq (into j) b) a (into j))) (sym (get-has sets b ∙ ap is_some is)) (merged-in z is)
 
 module _ (n : ℕ) (has : ℕ → Bool) where
   plant-in : (plant : Plant) (sets : List (Option (List ℕ))) (into : ℕ → ℕ) → IsOnTracks (length sets) plant → AreIn sets has into

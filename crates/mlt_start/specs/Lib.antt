@@ -1,5 +1,4 @@
 pub mod Asked
 pub mod Code
 pub mod Found
-pub mod Names
 pub mod Pushed

@@ -1,20 +1,13 @@
 //! Starting a frame.
 
-ghost use Rattle.std.specs.Prelude.{◌≡◌, ◌≤◌, ◌<◌, [], ◌∷◌, List, ℕ, length, All};
-ghost use Rattle.mlt_frame.specs.Fits.{Fits};
-ghost use Rattle.mlt_frame.specs.Loads.{loads};
-ghost use Rattle.mlt_frame.specs.Ranges.{IsInRange};
-ghost use Rattle.mlt_frame.specs.Registers.{regs};
+ghost use Rattle.std.specs.Prelude.{◌≡◌, ◌≤◌, ◌<◌, []};
 ghost use Rattle.mlt_frame.specs.Stack.{room};
-ghost use Rattle.mlt_tree.specs.Meaning.{Matter, mean};
-ghost use Rattle.mlt_tree.specs.Medium.{Pictures, Sounds};
-ghost use Rattle.mlt_tree.specs.Needs.{needs};
-ghost use Rattle.mlt_tree.specs.Sizes.{need, ops as ops_of};
+ghost use Rattle.mlt_frame.specs.Started.{IsStarted};
+ghost use Rattle.mlt_tree.specs.Sizes.{ops as ops_of};
 ghost use Rattle.mlt_tree.specs.Tree.{len};
 ghost use Rattle.mlt_graph.specs.Sealed.{tree};
 ghost use Rattle.mlt_start.specs.Asked.{medium_of};
 ghost use Rattle.mlt_start.specs.Code.{code, or_absent};
-ghost use Rattle.mlt_start.specs.Names.{Names};
 ghost use Rattle.mlt_start.specs.Pushed.{IsAbove};
 
 use crate::asked::Asked;
@@ -39,24 +32,17 @@ fn push_all(sealed: &Sealed, asked: Asked, at: u32, stack: &mut OpStack)
 /// bytes go to. It takes no memory and can't be refused.
 ///
 /// Only what shows is pushed: no track that another one covers or that goes into none that shows, no hidden
-/// track, and no filter or merge outside its span. The position is below the length of what is played; each stack is empty, with spare for
-/// [`Sealed::ops`] at least. The numbers of what is pushed are in their ranges.
+/// track, and no filter or merge outside its span. The position is below the length of what is played; each
+/// stack is empty, with spare for [`Sealed::ops`] at least. What holds of the frame is `IsStarted` in `mlt_frame`'s
+/// `specs/Started`; the stacks keep their room.
 pub fn start(sealed: &Sealed, at: Pos, out: Lease, ops: Ops) -> Frame
     requires at { at.0 < len (tree sealed.now) }
     requires empty { (ops.image.ops ≡ []) × (ops.sound.ops ≡ []) }
     requires spare { (ops_of (tree sealed.now) ≤ ops.image.spare) × (ops_of (tree sealed.now) ≤ ops.sound.spare) }
     ensures at { result.at ≡ at }
     ensures out { result.out ≡ out }
-    ensures image { (m : Matter (List ℕ)) → regs m [] result.image.ops ≡ mean Pictures m (tree sealed.now) at.0 ∷ [] }
-    ensures sound { (m : Matter (List (List ℕ))) → regs m [] result.sound.ops ≡ mean Sounds m (tree sealed.now) at.0 ∷ [] }
-    ensures loads { loads result.image.ops ≡ needs (tree sealed.now) at.0 }
-    ensures fits_image { Fits (need (tree sealed.now)) 0 result.image.ops }
-    ensures fits_sound { Fits (need (tree sealed.now)) 0 result.sound.ops }
-    ensures few { (length result.image.ops ≤ ops_of (tree sealed.now)) × (length result.sound.ops ≤ ops_of (tree sealed.now)) }
+    ensures started { IsStarted (tree sealed.now) result }
     ensures room { (room ops.image ≤ room result.image) × (room ops.sound ≤ room result.sound) }
-    ensures names_image { All (Names Pictures (tree sealed.now)) result.image.ops }
-    ensures names_sound { All (Names Sounds (tree sealed.now)) result.sound.ops }
-    ensures ranges { All IsInRange result.image.ops × All IsInRange result.sound.ops }
 {
     let Ops {
         mut image,

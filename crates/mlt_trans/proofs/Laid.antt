@@ -15,7 +15,7 @@ use Rattle.mlt_image.proofs.RowsKept.{tabled}
 use Rattle.mlt_slice.specs.Rows.{row_of, IsWorked, by_bytes}
 use Rattle.mlt_slice.proofs.Bytes.{row_byte, bytes_are}
 use Rattle.mlt_tree.specs.Filters.{column, row}
-use Rattle.mlt_tree.specs.Merges.{within, composite}
+use Rattle.mlt_tree.specs.Merges.{offset_in, composite}
 use Rattle.mlt_trans.specs.Placed.{IsVisible, places_of, laid_where, laid_row}
 use Rattle.mlt_trans.proofs.Rowwise.{place_of, alpha_row}
 
@@ -97,22 +97,22 @@ module _ (opacity : ℕ) (z : ℕ → ℕ → ℕ → ℕ) (start : ℤ) (size w
       ∙ ap (λ a. laid_channel (j % 4) (alpha_at old (from * 4 + j)) (strength a opacity) (get_or old (from * 4 + j) 0) (z (skip + j / 4) v (j % 4))) alpha
       ∙ ap (λ c. laid_channel c (alpha_at old (from * 4 + j)) (strength (z (skip + j / 4) v 3) opacity) (get_or old (from * 4 + j) 0) (z (skip + j / 4) v c)) (sym channel)
 
-  pub row_laid : (i : ℕ) → i < width * 4 → get_or new i 0 ≡ laid_where opacity z old i (within start size (i / 4)) (Some v)
+  pub row_laid : (i : ℕ) → i < width * 4 → get_or new i 0 ≡ laid_where opacity z old i (offset_in start size (i / 4)) (Some v)
   row_laid i lt = by (cases_lt i (from * 4)) (cases_lt i (from * 4 + count * 4)) where
-    by : (i < from * 4) ⊎ (from * 4 ≤ i) → (i < from * 4 + count * 4) ⊎ (from * 4 + count * 4 ≤ i) → get_or new i 0 ≡ laid_where opacity z old i (within start size (i / 4)) (Some v)
+    by : (i < from * 4) ⊎ (from * 4 ≤ i) → (i < from * 4 + count * 4) ⊎ (from * 4 + count * 4 ≤ i) → get_or new i 0 ≡ laid_where opacity z old i (offset_in start size (i / 4)) (Some v)
     by (inl low) _ =
-        let none : within start size (i / 4) ≡ None = visible.before (i / 4) (omega arith) in
+        let none : offset_in start size (i / 4) ≡ None = visible.before (i / 4) (omega arith) in
         before i low ∙ ap (λ u. laid_where opacity z old i u (Some v)) (sym none)
     by (inr high) (inl low) =
         let j : ℕ = i - from * 4 in
         let place : from * 4 + j ≡ i = omega arith in
         let column : i / 4 ≡ from + j / 4 = omega arith in
-        let some : within start size (i / 4) ≡ Some (skip + j / 4) = ap (within start size) column ∙ visible.shown (j / 4) (omega arith) in
+        let some : offset_in start size (i / 4) ≡ Some (skip + j / 4) = ap (offset_in start size) column ∙ visible.shown (j / 4) (omega arith) in
         ap (λ k. get_or new k 0) (sym place) ∙ seen j (omega arith)
         ∙ ap (λ k. laid_where opacity z old k (Some (skip + j / 4)) (Some v)) place
         ∙ ap (λ u. laid_where opacity z old i u (Some v)) (sym some)
     by (inr high) (inr past) =
-        let none : within start size (i / 4) ≡ None = visible.behind (i / 4) (omega arith) (omega arith) in
+        let none : offset_in start size (i / 4) ≡ None = visible.behind (i / 4) (omega arith) (omega arith) in
         after i (omega arith) ∙ ap (λ u. laid_where opacity z old i u (Some v)) (sym none)
 
 -- a part of a row that is laid over
@@ -136,7 +136,7 @@ module _ (geometry : Geometry) (width height k i : ℕ) (xs zs : List ℕ) (lt :
   abbrev z : ℕ → ℕ → ℕ → ℕ
   z = stretched_at above geometry.width geometry.height
 
-  at_place : (u v : Option ℕ) → within geometry.x geometry.width (column width (k * (width * 4) + i)) ≡ u → within geometry.y geometry.height (row width (k * (width * 4) + i)) ≡ v
+  at_place : (u v : Option ℕ) → offset_in geometry.x geometry.width (column width (k * (width * 4) + i)) ≡ u → offset_in geometry.y geometry.height (row width (k * (width * 4) + i)) ≡ v
       → laid_where geometry.opacity z (row_of (width * 4) k xs) i u v ≡ composite geometry width height xs zs (k * (width * 4) + i)
   at_place None v eu ev = let x = row_byte (width * 4) k i xs lt in rw (eu, x) refl
   at_place (Some u) None eu ev = let x = row_byte (width * 4) k i xs lt in rw (eu, ev, x) refl
@@ -149,7 +149,7 @@ module _ (geometry : Geometry) (width height k i : ℕ) (xs zs : List ℕ) (lt :
   pub composite_row : laid_row geometry above k (row_of (width * 4) k xs) i ≡ composite geometry width height xs zs (k * (width * 4) + i)
   composite_row =
       let p = place_of width k i lt in
-      at_place (within geometry.x geometry.width (i / 4)) (within geometry.y geometry.height k) (ap (within geometry.x geometry.width) p.0) (ap (within geometry.y geometry.height) p.1)
+      at_place (offset_in geometry.x geometry.width (i / 4)) (offset_in geometry.y geometry.height k) (ap (offset_in geometry.x geometry.width) p.0) (ap (offset_in geometry.y geometry.height) p.1)
 
 -- rows that are laid over one by one are a picture that is
 pub picture_laid : (geometry : Geometry) (width height : ℕ) (xs zs ys : List ℕ) → 1 ≤ width → length xs ≡ width * height * 4

@@ -6,7 +6,7 @@ use Rattle.std.proofs.lemmas.List.FromFn.{fill_by_all}
 use Rattle.mlt_base.specs.Mixing.{table, dissolved, alpha_at}
 use Rattle.mlt_slice.specs.Rows.{row_of}
 use Rattle.mlt_slice.proofs.Bytes.{row_byte}
-use Rattle.mlt_tree.specs.Filters.{luma_at}
+use Rattle.mlt_tree.specs.Filters.{lightness_at}
 use Rattle.mlt_tree.specs.Merges.{matte}
 use Rattle.mlt_trans.specs.Beside.{row_in, beside, wiped, wiped_beside}
 
@@ -75,7 +75,7 @@ pixel_byte width k i c xs small lt = row_byte (width * 4) k (i / 4 * 4 + c) xs (
 first_byte : (width k i : ℕ) (xs : List ℕ) → i < width * 4 → get_or (row_of (width * 4) k xs) (i / 4 * 4) 0 ≡ get_or xs ((k * (width * 4) + i) / 4 * 4) 0
 first_byte width k i xs lt = row_byte (width * 4) k (i / 4 * 4) xs (omega arith) ∙ ap (λ j. get_or xs j 0) (omega arith)
 
-pub luma_row : (width k i : ℕ) (xs : List ℕ) → i < width * 4 → luma_at (row_of (width * 4) k xs) i ≡ luma_at xs (k * (width * 4) + i)
+pub luma_row : (width k i : ℕ) (xs : List ℕ) → i < width * 4 → lightness_at (row_of (width * 4) k xs) i ≡ lightness_at xs (k * (width * 4) + i)
 luma_row width k i xs lt =
     let r = first_byte width k i xs lt in
     let g = pixel_byte width k i 1 xs (omega arith) lt in

@@ -4,14 +4,14 @@ use Rattle.mlt_base.specs.declared.geometry.Geometry.{Geometry}
 use Rattle.mlt_base.specs.Fitting.{along, stretched_at}
 use Rattle.mlt_base.specs.Mixing.{table, alpha_at}
 use Rattle.mlt_base.specs.Still.{Picture}
-use Rattle.mlt_tree.specs.Merges.{within, laid_by}
+use Rattle.mlt_tree.specs.Merges.{offset_in, laid_by}
 
 -- of the places of a frame's side, so many from one on show a rectangle: the first of them its place skip, and so on;
 -- no other place shows any of it
 pub record IsVisible (start : ℤ) (size side from skip count : ℕ) : Type 0 where
-  pub shown : (j : ℕ) → j < count → within start size (from + j) ≡ Some (skip + j)
-  pub before : (at : ℕ) → at < from → within start size at ≡ None
-  pub behind : (at : ℕ) → from + count ≤ at → at < side → within start size at ≡ None
+  pub shown : (j : ℕ) → j < count → offset_in start size (from + j) ≡ Some (skip + j)
+  pub before : (at : ℕ) → at < from → offset_in start size at ≡ None
+  pub behind : (at : ℕ) → from + count ≤ at → at < side → offset_in start size at ≡ None
   pub inside : from + count ≤ side
   pub own : skip + count ≤ size
 
@@ -28,4 +28,4 @@ laid_where opacity z row i (Some u) (Some v) = laid_by opacity (z u v) (i % 4) (
 -- byte i of row n with a picture laid over it that is stretched to a geometry
 abbrev pub laid_row : Geometry → Picture → (n : ℕ) → List ℕ → ℕ → ℕ
 laid_row geometry above n row i =
-    laid_where geometry.opacity (stretched_at above geometry.width geometry.height) row i (within geometry.x geometry.width (i / 4)) (within geometry.y geometry.height n)
+    laid_where geometry.opacity (stretched_at above geometry.width geometry.height) row i (offset_in geometry.x geometry.width (i / 4)) (offset_in geometry.y geometry.height n)

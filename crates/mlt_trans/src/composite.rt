@@ -9,7 +9,7 @@ ghost use Rattle.mlt_base.specs.GeometryView.{IsPlacement};
 ghost use Rattle.mlt_base.specs.Mixing.{table, alpha_at, strength, laid_channel};
 ghost use Rattle.mlt_image.specs.Kept.{AreRows};
 ghost use Rattle.mlt_slice.specs.Rows.{by_bytes};
-ghost use Rattle.mlt_tree.specs.Merges.{within, composite};
+ghost use Rattle.mlt_tree.specs.Merges.{offset_in, composite};
 ghost use Rattle.mlt_trans.specs.Placed.{IsVisible, places_of, laid_row};
 
 use crate::columns::Columns;
@@ -57,8 +57,8 @@ fn visible(start: i32, size: u32, side: u32) -> Part
 }
 
 /// How far a place lies behind a start, where it is one of so many from there; the start may lie before place 0.
-fn within(start: i32, size: u32, at: u32) -> Option<u32>
-    ensures value { result ≡ within start size at }
+fn offset_in(start: i32, size: u32, at: u32) -> Option<u32>
+    ensures value { result ≡ offset_in start size at }
     ensures below { IfSome result (λ place. place < size) }
 {
     if start < 0 {
@@ -125,7 +125,7 @@ impl RowMerge for Unstretched<'_> {
 
     fn merge(&mut self, number: u32, row: &mut [u8]) {
         let layer = self.layer;
-        if let Some(v) = within(layer.geometry.y, layer.geometry.height, number) {
+        if let Some(v) = offset_in(layer.geometry.y, layer.geometry.height, number) {
             let at = (v as usize * layer.width as usize + layer.columns.skip) * 4;
             let top = &layer.b[at..at + layer.columns.count * 4];
             lay(row, layer.columns.from, top, layer.geometry.opacity);
@@ -152,7 +152,7 @@ impl RowMerge for Stretched<'_> {
 
     fn merge(&mut self, number: u32, row: &mut [u8]) {
         let layer = self.layer;
-        if let Some(v) = within(layer.geometry.y, layer.geometry.height, number) {
+        if let Some(v) = offset_in(layer.geometry.y, layer.geometry.height, number) {
             let place = along(layer.height, layer.geometry.height, v);
             let bytes = layer.columns.count * 4;
             let room = &mut self.top[..];

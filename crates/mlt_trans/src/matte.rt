@@ -1,7 +1,7 @@
 //! Matte: how light one picture is becomes the alpha of the other.
 
 ghost use Rattle.std.specs.Prelude.{◌≡◌, ◌+◌, ◌*◌, ◌/◌, ◌%◌, ◌≤◌, length};
-ghost use Rattle.mlt_base.specs.Mixing.{table, luma};
+ghost use Rattle.mlt_base.specs.Mixing.{table, lightness};
 ghost use Rattle.mlt_kernel.specs.declared.pixel.Pixel.{Pixel};
 ghost use Rattle.mlt_tree.specs.Merges.{matte};
 ghost use Rattle.mlt_trans.specs.Beside.{row_in, beside};
@@ -47,7 +47,7 @@ fn matte_row(row: &mut [u8], other: &[u8])
 /// How light a pixel is, 0 to 255.
 #[inline(always)]
 pub fn lightness(pixel: Pixel) -> u8
-    ensures { result ≡ luma pixel.r pixel.g pixel.b }
+    ensures { result ≡ lightness pixel.r pixel.g pixel.b }
 {
     ((77 * pixel.r as u32 + 150 * pixel.g as u32 + 29 * pixel.b as u32) / 256) as u8
 }

@@ -4,8 +4,8 @@
 //! pixels: their shares are looked up first, so that the loop that mixes has no table in it.
 
 ghost use Rattle.std.specs.Prelude.{◌≡◌, ℕ, ◌+◌, ◌-◌, ◌*◌, ◌/◌, ◌%◌, ◌<◌, ◌≤◌, length, slice_index};
-ghost use Rattle.mlt_base.specs.Mixing.{table, mixed};
-ghost use Rattle.mlt_tree.specs.Filters.{luma_at};
+ghost use Rattle.mlt_base.specs.Mixing.{table, blended};
+ghost use Rattle.mlt_tree.specs.Filters.{lightness_at};
 ghost use Rattle.mlt_tree.specs.Merges.{reached_at, edge, turned, share_at};
 ghost use Rattle.mlt_trans.specs.Beside.{row_in, wiped, wiped_beside};
 
@@ -140,7 +140,7 @@ fn wipe_block(
 fn look_up(map: &[u8], shares: &[u32; 256], found: &mut [u32], from: usize)
     requires room { (from + length found.old) * 4 ≤ length map.now }
     requires most { (v : ℕ) → v < 256 → slice_index shares.now v ≤ 65536 }
-    ensures each { (j : ℕ) → j < length found.old → slice_index found.new j ≡ slice_index shares.now (luma_at map.now ((from + j) * 4)) }
+    ensures each { (j : ℕ) → j < length found.old → slice_index found.new j ≡ slice_index shares.now (lightness_at map.now ((from + j) * 4)) }
     ensures most { (j : ℕ) → j < length found.old → slice_index found.new j ≤ 65536 }
 {
     for j in 0..found.len() {
@@ -168,7 +168,7 @@ fn turn_each(row: &mut [u8], other: &[u8], found: &[u32], from: usize)
     requires same { length other.now ≡ length row.old }
     requires room { (from + length found.now) * 4 ≤ length row.old }
     requires most { (j : ℕ) → j < length found.now → slice_index found.now j ≤ 65536 }
-    ensures done { (k : ℕ) → from * 4 ≤ k → k < (from + length found.now) * 4 → slice_index row.new k ≡ mixed (slice_index found.now (k / 4 - from)) (slice_index row.old k) (slice_index other.now k) }
+    ensures done { (k : ℕ) → from * 4 ≤ k → k < (from + length found.now) * 4 → slice_index row.new k ≡ blended (slice_index found.now (k / 4 - from)) (slice_index row.old k) (slice_index other.now k) }
     ensures before { (k : ℕ) → k < from * 4 → slice_index row.new k ≡ slice_index row.old k }
     ensures after { (k : ℕ) → (from + length found.now) * 4 ≤ k → slice_index row.new k ≡ slice_index row.old k }
 {
@@ -176,10 +176,10 @@ fn turn_each(row: &mut [u8], other: &[u8], found: &[u32], from: usize)
         let share = found[j];
         let old = pixel_at(row, (from + j) * 4);
         let new = pixel_at(other, (from + j) * 4);
-        let red = mixed(share, old.r, new.r);
-        let green = mixed(share, old.g, new.g);
-        let blue = mixed(share, old.b, new.b);
-        let alpha = mixed(share, old.a, new.a);
+        let red = blended(share, old.r, new.r);
+        let green = blended(share, old.g, new.g);
+        let blue = blended(share, old.b, new.b);
+        let alpha = blended(share, old.a, new.a);
         let pixel = Pixel {
             r: red,
             g: green,
@@ -191,9 +191,9 @@ fn turn_each(row: &mut [u8], other: &[u8], found: &[u32], from: usize)
 }
 
 /// A byte of both, to the nearest whole number.
-fn mixed(share: u32, x: u8, z: u8) -> u8
+fn blended(share: u32, x: u8, z: u8) -> u8
     requires { share ≤ 65536 }
-    ensures { result ≡ mixed share x z }
+    ensures { result ≡ blended share x z }
 {
     ((x as u32 * (65536 - share) + z as u32 * share + 32768) / 65536) as u8
 }
@@ -216,7 +216,7 @@ pub fn wipe<B: Bands>(
     requires rows { (length a.old % (width * 4) ≡ 0) × (length a.old / (width * 4) ≤ 4096) }
     requires same { length b.now ≡ length a.old }
     requires mapped { length map.now ≡ length a.old }
-    ensures { a.new ≡ table (length a.old) (λ k. mixed (share_at softness.0 q.0 map.now k) (slice_index a.old k) (slice_index b.now k)) }
+    ensures { a.new ≡ table (length a.old) (λ k. blended (share_at softness.0 q.0 map.now k) (slice_index a.old k) (slice_index b.now k)) }
 {
     let mut shares = [0; 256];
     find_shares(softness.0, q.0, &mut shares);
@@ -246,7 +246,7 @@ pub fn wipe_from<B: Bands>(
     requires rows { (length from.now % (width * 4) ≡ 0) × (length from.now / (width * 4) ≤ 4096) }
     requires same { (length b.now ≡ length from.now) × (length a.old ≡ length from.now) }
     requires mapped { length map.now ≡ length from.now }
-    ensures { a.new ≡ table (length from.now) (λ k. mixed (share_at softness.0 q.0 map.now k) (slice_index from.now k) (slice_index b.now k)) }
+    ensures { a.new ≡ table (length from.now) (λ k. blended (share_at softness.0 q.0 map.now k) (slice_index from.now k) (slice_index b.now k)) }
 {
     let mut shares = [0; 256];
     find_shares(softness.0, q.0, &mut shares);

@@ -11,10 +11,10 @@ use Rattle.mlt_tree.specs.declared.group.GroupKind.{GroupKind}
 use Rattle.mlt_tree.specs.declared.group.GroupKind.TheVariants.{Producer}
 use Rattle.mlt_tree.specs.declared.group.Prop.{Prop}
 use Rattle.mlt_tree.specs.declared.table.Row.{Row}
-use Rattle.mlt_tree.specs.Table.{option_of, row_of}
+use Rattle.mlt_tree.specs.Table.{option_of, option_row}
 use Rattle.mlt_base.specs.Steps.{◌>>=◌}
-use Rattle.mlt_tree.specs.Words.{State, Last, Nothing, Waiting, Open, fault, start, open_group, then_last, begin, is_option, known, supported, option_word, divided, with_prop, property_word, plain_word, free_word, step, steps, finish, groups}
-use Rattle.mlt_tree.specs.GroupWords.{takes_argument, takes_properties, IsAllowedProp, IsAllowed, has_equals, IsProducerWord, IsReadableProp, IsReadable}
+use Rattle.mlt_tree.specs.Words.{WordsRead, Last, Nothing, Waiting, Open, fault, nothing_read, open_group, then_last, begin, known, supported, option_word, divided, with_prop, property_word, plain_word, free_word, step, steps, finish, groups}
+use Rattle.mlt_tree.specs.GroupWords.{takes_argument, takes_properties, IsAllowedProp, IsAllowed, has_equals, IsProducerWord, IsReadableProp, IsReadable, is_option}
 use Rattle.mlt_tree.proofs.Bound.{ok, ok_one, not_ok, bind_ok}
 use Rattle.mlt_tree.proofs.Options.{nothing_found, row_of-option, row_of-producer}
 use Rattle.mlt_tree.proofs.Divided.{undivided-none, undivided-name}
@@ -35,18 +35,18 @@ record IsRead (group : Group) : Type 0 where
   readable : IsReadable group
 
 -- what has an option is no producer
-no_producer : (kind : GroupKind) (row : Row) → row_of kind ≡ Some row → kind ≢ Producer
-no_producer kind row of_kind is = nothing_found row (sym row_of-producer ∙ ap row_of (sym is) ∙ of_kind)
+no_producer : (kind : GroupKind) (row : Row) → option_row kind ≡ Some row → kind ≢ Producer
+no_producer kind row of_kind is = nothing_found row (sym row_of-producer ∙ ap option_row (sym is) ∙ of_kind)
 
 -- an option that waits takes an argument, and a group that is open is one that was read; each knows whether
 -- properties may follow
 abbrev IsSound : Last → Type 0
 IsSound Nothing = Unit {0}
 IsSound (Waiting place kind properties) =
-    (place < MOST_WORDS) × (takes_argument (row_of kind) ≡ true) × (takes_properties (row_of kind) ≡ properties) × (kind ≢ Producer)
-IsSound (Open group properties) = IsRead group × (takes_properties (row_of group.kind) ≡ properties)
+    (place < MOST_WORDS) × (takes_argument (option_row kind) ≡ true) × (takes_properties (option_row kind) ≡ properties) × (kind ≢ Producer)
+IsSound (Open group properties) = IsRead group × (takes_properties (option_row group.kind) ≡ properties)
 
-record Sound (s : State) : Type 0 where
+record Sound (s : WordsRead) : Type 0 where
   each : All IsRead s.done
   newest : IsSound s.last
 
@@ -56,10 +56,10 @@ groups_so_far done Nothing each newest = All-append IsRead done [] each (none Is
 groups_so_far done (Waiting place kind properties) each newest = All-append IsRead done [] each (none IsRead)
 groups_so_far done (Open group properties) each newest = All-append IsRead done (group ∷ []) each (one IsRead group newest.0)
 
-to : (t u : State) → ok t ≡ ok u → Sound t → Sound u
+to : (t u : WordsRead) → ok t ≡ ok u → Sound t → Sound u
 to t u h sound = subst Sound (ok_one t u h) sound
 
-begin_sound : (place : ℕ) (kind : GroupKind) (arg : List ℕ) (properties : Bool) (s : State) → Sound s → place < MOST_WORDS → (takes_argument (row_of kind) ≡ false → arg ≡ []) → takes_properties (row_of kind) ≡ properties → (kind ≡ Producer → IsProducerWord arg) → Sound (begin place kind arg properties s)
+begin_sound : (place : ℕ) (kind : GroupKind) (arg : List ℕ) (properties : Bool) (s : WordsRead) → Sound s → place < MOST_WORDS → (takes_argument (option_row kind) ≡ false → arg ≡ []) → takes_properties (option_row kind) ≡ properties → (kind ≡ Producer → IsProducerWord arg) → Sound (begin place kind arg properties s)
 begin_sound place kind arg properties s sound few argument may producer =
     record {
       each = groups_so_far s.done s.last sound.each sound.newest;
@@ -72,14 +72,14 @@ begin_sound place kind arg properties s sound few argument may producer =
       );
     }
 
-wait_sound : (place : ℕ) (kind : GroupKind) (properties : Bool) (s : State) → Sound s → place < MOST_WORDS → takes_argument (row_of kind) ≡ true → takes_properties (row_of kind) ≡ properties → kind ≢ Producer → Sound (then_last (Waiting place kind properties) s)
+wait_sound : (place : ℕ) (kind : GroupKind) (properties : Bool) (s : WordsRead) → Sound s → place < MOST_WORDS → takes_argument (option_row kind) ≡ true → takes_properties (option_row kind) ≡ properties → kind ≢ Producer → Sound (then_last (Waiting place kind properties) s)
 wait_sound place kind properties s sound few argument may other =
     record { each = groups_so_far s.done s.last sound.each sound.newest; newest = (few, argument, may, other) }
 
-option_sound : (place : ℕ) (word : List ℕ) (s t : State) → Sound s → place < MOST_WORDS → option_word place word s ≡ Ok t → Sound t
+option_sound : (place : ℕ) (word : List ℕ) (s t : WordsRead) → Sound s → place < MOST_WORDS → option_word place word s ≡ Ok t → Sound t
 unfolding option_word
 option_sound place word s t sound few h = by_row (option_of word) refl h where
-  by_argument : (row : Row) (kind : GroupKind) → row_of kind ≡ Some row → (b : Bool) → row.argument ≡ b → ok (cond b (then_last (Waiting place kind row.properties) s) (begin place kind [] row.properties s)) ≡ Ok t → Sound t
+  by_argument : (row : Row) (kind : GroupKind) → option_row kind ≡ Some row → (b : Bool) → row.argument ≡ b → ok (cond b (then_last (Waiting place kind row.properties) s) (begin place kind [] row.properties s)) ≡ Ok t → Sound t
   by_argument row kind of_kind true argument h =
       to (then_last (Waiting place kind row.properties) s) t h (wait_sound place kind row.properties s sound few (ap takes_argument of_kind ∙ argument) (ap takes_properties of_kind) (no_producer kind row of_kind))
   by_argument row kind of_kind false argument h =
@@ -93,7 +93,7 @@ option_sound place word s t sound few h = by_row (option_of word) refl h where
   by_row None found h = absurd (not_ok _ t h)
   by_row (Some row) found h = by_kind row found row.kind refl h
 
-property_sound : (place : ℕ) (name value : List ℕ) (done : List Group) (last : Last) (t : State) → All IsRead done → IsSound last → place < MOST_WORDS → is_option (name ++ (byte "=" ∷ value)) ≡ false → has_equals name ≡ false → property_word place name value (record { done = done; last = last }) ≡ Ok t → Sound t
+property_sound : (place : ℕ) (name value : List ℕ) (done : List Group) (last : Last) (t : WordsRead) → All IsRead done → IsSound last → place < MOST_WORDS → is_option (name ++ (byte "=" ∷ value)) ≡ false → has_equals name ≡ false → property_word place name value (record { done = done; last = last }) ≡ Ok t → Sound t
 unfolding property_word
 property_sound place [] value done last t each newest few free undivided h = absurd (not_ok _ t h)
 property_sound place (c ∷ name) value done Nothing t each newest few free undivided h = absurd (not_ok _ t h)
@@ -114,11 +114,11 @@ property_sound place (c ∷ name) value done (Open group true) t each newest few
     } in
     to (record { done = done; last = Open (with_prop prop group) true }) t h (record { each = each; newest = (record { allowed = allowed; readable = readable }, newest.1) })
 
-producer_sound : (place : ℕ) (word : List ℕ) (s : State) → Sound s → place < MOST_WORDS → IsProducerWord word → Sound (begin place Producer word true s)
+producer_sound : (place : ℕ) (word : List ℕ) (s : WordsRead) → Sound s → place < MOST_WORDS → IsProducerWord word → Sound (begin place Producer word true s)
 producer_sound place word s sound few producer =
     begin_sound place Producer word true s sound few (λ e. absurd (clash (sym (ap takes_argument row_of-producer) ∙ e))) (ap takes_properties row_of-producer) (λ is. producer)
 
-free_sound : (place : ℕ) (word : List ℕ) (done : List Group) (last : Last) (t : State) → All IsRead done → IsSound last → place < MOST_WORDS → free_word place word (record { done = done; last = last }) ≡ Ok t → Sound t
+free_sound : (place : ℕ) (word : List ℕ) (done : List Group) (last : Last) (t : WordsRead) → All IsRead done → IsSound last → place < MOST_WORDS → free_word place word (record { done = done; last = last }) ≡ Ok t → Sound t
 free_sound place word done last t each newest few h = by_form (is_option word) refl h where
   by_parts : (parts : Option (List ℕ × List ℕ)) → is_option word ≡ false → divided word ≡ parts → plain_word place word parts (record { done = done; last = last }) ≡ Ok t → Sound t
   by_parts None free is h =
@@ -130,14 +130,14 @@ free_sound place word done last t each newest few h = by_form (is_option word) r
   by_form true is h = option_sound place word (record { done = done; last = last }) t (record { each = each; newest = newest }) few h
   by_form false is h = by_parts (divided word) is refl h
 
-step_sound : (place : ℕ) (word : List ℕ) (done : List Group) (last : Last) (t : State) → All IsRead done → IsSound last → place < MOST_WORDS → step place word (record { done = done; last = last }) ≡ Ok t → Sound t
+step_sound : (place : ℕ) (word : List ℕ) (done : List Group) (last : Last) (t : WordsRead) → All IsRead done → IsSound last → place < MOST_WORDS → step place word (record { done = done; last = last }) ≡ Ok t → Sound t
 unfolding step
 step_sound place word done Nothing t each newest few h = free_sound place word done Nothing t each newest few h
 step_sound place word done (Waiting option kind properties) t each newest few h =
     to (begin option kind word properties (record { done = done; last = Waiting option kind properties })) t h (begin_sound option kind word properties (record { done = done; last = Waiting option kind properties }) (record { each = each; newest = newest }) newest.0 (λ e. absurd (clash (sym newest.1 ∙ e))) newest.2 (λ is. absurd (newest.3 is)))
 step_sound place word done (Open group properties) t each newest few h = free_sound place word done (Open group properties) t each newest few h
 
-steps_sound : (place : ℕ) (words : List (List ℕ)) (s t : State) → place + length words ≤ MOST_WORDS → Sound s → steps place words s ≡ Ok t → Sound t
+steps_sound : (place : ℕ) (words : List (List ℕ)) (s t : WordsRead) → place + length words ≤ MOST_WORDS → Sound s → steps place words s ≡ Ok t → Sound t
 steps_sound place [] s t few sound h = subst Sound (ok_one s t h) sound
 steps_sound place (word ∷ words) s t few sound h =
     let b = bind_ok (step place word s) (steps (place + 1) words) t h in
@@ -158,12 +158,12 @@ finish_sound done (Open group properties) gs each newest h =
 groups_read : (words : List (List ℕ)) (gs : List Group) → groups words ≡ Ok gs → All IsRead gs
 unfolding groups
 groups_read words gs h = by_count (ltb MOST_WORDS (length words)) refl h where
-  by_count : (b : Bool) → ltb MOST_WORDS (length words) ≡ b → cond b (fault MOST_WORDS (TooMany MOST_WORDS)) (steps 0 words start >>= finish) ≡ Ok gs → All IsRead gs
+  by_count : (b : Bool) → ltb MOST_WORDS (length words) ≡ b → cond b (fault MOST_WORDS (TooMany MOST_WORDS)) (steps 0 words nothing_read >>= finish) ≡ Ok gs → All IsRead gs
   by_count true is h = absurd (not_ok _ gs h)
   by_count false is h =
-      let b = bind_ok (steps 0 words start) finish gs h in
+      let b = bind_ok (steps 0 words nothing_read) finish gs h in
       let few : 0 + length words ≤ MOST_WORDS = grind (arith, nat_tests, is) in
-      let sound = steps_sound 0 words start b.x few (record { each = none IsRead; newest = tt }) b.first in
+      let sound = steps_sound 0 words nothing_read b.x few (record { each = none IsRead; newest = tt }) b.first in
       finish_sound b.x.done b.x.last gs sound.each sound.newest b.then
 
 pub groups_sound : (words : List (List ℕ)) (gs : List Group) → groups words ≡ Ok gs → All IsAllowed gs

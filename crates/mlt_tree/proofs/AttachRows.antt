@@ -22,7 +22,7 @@ use Rattle.mlt_tree.specs.declared.refusal.Refusal.{Refusal}
 use Rattle.mlt_tree.specs.declared.tree.Attached.{Attached}
 use Rattle.mlt_tree.specs.declared.tree.SourceKind.TheVariants.{Colour}
 use Rattle.mlt_tree.specs.Attaching.{Asked, crop_of, spec_of, asked_by, asked_filter, attach, attach_clip, attach_track, attached_to_track}
-use Rattle.mlt_tree.specs.Composition.{State, start, with_track, track}
+use Rattle.mlt_tree.specs.Composition.{State, begun, with_track, track}
 use Rattle.mlt_tree.specs.Edits.{clip}
 use Rattle.mlt_tree.specs.Props.{counted, timed, keyed, lettered}
 use Rattle.mlt_tree.specs.Refusing.{refuse}
@@ -31,7 +31,7 @@ use Rattle.mlt_tree.specs.Unbuilt.{filter_built}
 
 -- a track of these entries, where unit 0 is a colour
 abbrev on : List Entry → State
-on entries = with_track (record (start (row_measures DV_PAL) 9) { made = record { units = source_unit (record { 0 = 0 }) Colour 15000 ∷ []; sources = []; loaded = 0; words = 9 } }) entries
+on entries = with_track (record (begun (row_measures DV_PAL) 9) { made = record { units = source_unit (record { 0 = 0 }) Colour 15000 ∷ []; sources = []; loaded = 0; words = 9 } }) entries
 
 -- the frames 2 to 6 of unit 0
 abbrev one_clip : State

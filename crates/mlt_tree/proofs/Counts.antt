@@ -1,7 +1,7 @@
 -- Groups have as many words as were read.
 use Rattle.std.proofs.Common.{ℕ, ◌≡◌, ◌+◌, List, [], ◌∷◌, length, fold, max, ap, ◌∙◌, arith}
 use Rattle.std.specs.List.{enumerate_from}
-use Rattle.mlt_tree.specs.GroupWords.{CountsWords}
+use Rattle.mlt_tree.specs.WordLaws.{CountsWords}
 use Rattle.mlt_tree.proofs.Kept.{words_kept}
 
 -- one more than the greatest place of these words, or a number that is more

@@ -3,8 +3,8 @@ use Rattle.std.proofs.Common.{◌≡◌, ℕ, ◌+◌, ◌≤◌, Bool, true, fa
 use Rattle.std.specs.List.{position_or_len, before_first, after_first, list_any}
 use Rattle.std.specs.Str.{byte}
 use Rattle.std.proofs.lemmas.Bool.Decides.{nat_tests}
-use Rattle.mlt_tree.specs.Words.{is_equals, divided}
-use Rattle.mlt_tree.specs.GroupWords.{has_equals}
+use Rattle.mlt_tree.specs.Words.{divided}
+use Rattle.mlt_tree.specs.GroupWords.{has_equals, is_equals}
 use Rattle.mlt_tree.proofs.Options.{nothing_found}
 
 module _ {X : Type 0} (p : X → Bool) where

@@ -16,6 +16,7 @@ mod MergeRows
 mod Options
 pub mod Past
 mod PlantRows
+mod ReadingRows
 mod Rows
 pub mod StepRanges
 mod Trace

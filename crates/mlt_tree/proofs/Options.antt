@@ -10,8 +10,8 @@ use Rattle.mlt_tree.specs.declared.group.GroupKind.{GroupKind}
 use Rattle.mlt_tree.specs.declared.group.GroupKind.TheVariants.{Producer}
 use Rattle.mlt_tree.specs.declared.table.Row.{Row}
 use Rattle.mlt_tree.specs.declared.table.TheConstants.{OPTIONS}
-use Rattle.mlt_tree.specs.Table.{is_kind, is_named, option_of, row_of}
-use Rattle.mlt_tree.specs.Words.{is_option}
+use Rattle.mlt_tree.specs.Table.{is_kind, is_named, option_of, option_row}
+use Rattle.mlt_tree.specs.GroupWords.{is_option}
 
 -- the kind of a row, where it has one, is another than that of the row before it
 abbrev is_apart : Row → Option GroupKind → Bool
@@ -70,8 +70,8 @@ of_kind p kind (r ∷ rows) row k e apart =
           let other : not (is_kind kind r.kind) ≡ true = sym (ap (is_apart r) k) ∙ all_found p (λ q. is_apart r q.kind) rows row e h.0 in
           not_chosen (is_kind kind r.kind) (Some r) _ other ∙ later e h.1
 
-pub row_of-option : (word : List ℕ) (row : Row) (kind : GroupKind) → option_of word ≡ Some row → row.kind ≡ Some kind → row_of kind ≡ Some row
-unfolding option_of row_of
+pub row_of-option : (word : List ℕ) (row : Row) (kind : GroupKind) → option_of word ≡ Some row → row.kind ≡ Some kind → option_row kind ≡ Some row
+unfolding option_of option_row
 row_of-option word row kind e k = of_kind (is_named word) kind OPTIONS row k e options-apart
 
 pub name_of-option : (word : List ℕ) (row : Row) → option_of word ≡ Some row → name_of row.name ≡ word
@@ -103,31 +103,31 @@ of_name p (r ∷ rows) row e apart =
       go false e later h =
           not_chosen (is_named (name_of row.name) r) (Some r) _ (all_found p (is_named_apart r) rows row e h.0) ∙ later e h.1
 
-pub option_of-row : (kind : GroupKind) (row : Row) → row_of kind ≡ Some row → option_of (name_of row.name) ≡ Some row
-unfolding option_of row_of
+pub option_of-row : (kind : GroupKind) (row : Row) → option_row kind ≡ Some row → option_of (name_of row.name) ≡ Some row
+unfolding option_of option_row
 option_of-row kind row e = of_name (λ r. is_kind kind r.kind) OPTIONS row e options-named_apart
 
-pub kind_of-row : (kind : GroupKind) (row : Row) → row_of kind ≡ Some row → row.kind ≡ Some kind
-unfolding row_of
+pub kind_of-row : (kind : GroupKind) (row : Row) → option_row kind ≡ Some row → row.kind ≡ Some kind
+unfolding option_row
 kind_of-row kind row e = same row.kind (found (λ r. is_kind kind r.kind) OPTIONS row e) where
   same : (other : Option GroupKind) → is_kind kind other ≡ true → other ≡ Some kind
   same None h = absurd (grind arith)
   same (Some other) h = ap Some (sym (same_true the_type (search rules) kind other h))
 
 -- the word of an option begins with `-` and goes on
-pub is_option-row : (kind : GroupKind) (row : Row) → row_of kind ≡ Some row → is_option (name_of row.name) ≡ true
-unfolding row_of
+pub is_option-row : (kind : GroupKind) (row : Row) → option_row kind ≡ Some row → is_option (name_of row.name) ≡ true
+unfolding option_row
 is_option-row kind row e = all_found (λ r. is_kind kind r.kind) (λ r. is_option (name_of r.name)) OPTIONS row e refl
 
 something_found : {X : Type 0} → {x : X} → Some x ≡ None → ⊥
 something_found h = grind arith
 
 -- a producer alone is of no option
-pub kind_of-none : (kind : GroupKind) → row_of kind ≡ None → kind ≡ Producer
-unfolding row_of
+pub kind_of-none : (kind : GroupKind) → option_row kind ≡ None → kind ≡ Producer
+unfolding option_row
 kind_of-none Producer h = refl
 kind_of-none kind h = absurd (something_found h)
 
-pub row_of-producer : row_of Producer ≡ None
-unfolding row_of
+pub row_of-producer : option_row Producer ≡ None
+unfolding option_row
 row_of-producer = refl

@@ -21,7 +21,7 @@ use Rattle.mlt_tree.specs.declared.refusal.Cause.TheVariants.{Unsupported, Unkno
 use Rattle.mlt_tree.specs.declared.refusal.Refusal.{Refusal}
 use Rattle.mlt_tree.specs.declared.tree.SourceKind.TheVariants.{Colour}
 use Rattle.mlt_tree.specs.Attaching.{asked_by, spec_of}
-use Rattle.mlt_tree.specs.Composition.{State, start, with_track, track}
+use Rattle.mlt_tree.specs.Composition.{State, begun, with_track, track}
 use Rattle.mlt_tree.specs.Edits.{clip}
 use Rattle.mlt_tree.specs.Loaded.{picture_loaded, file_within}
 use Rattle.mlt_tree.specs.Loading.{Stop, Refused, Missing, Read, no_files}
@@ -35,7 +35,7 @@ use Rattle.mlt_tree.specs.Units.{empty_draft, seen, source_unit, mix_unit}
 
 -- a track of these entries, where unit 0 is a colour, over so many other tracks
 abbrev over : List Entry → List Entry → State
-over below entries = with_track (record (start (row_measures DV_PAL) 9) {
+over below entries = with_track (record (begun (row_measures DV_PAL) 9) {
   made = record { units = source_unit (record { 0 = 0 }) Colour 15000 ∷ []; sources = []; loaded = 0; words = 9 };
   level = record { closed = record (empty_draft seen) { entries = below } ∷ []; current = empty_draft seen; plants = [] };
 }) entries

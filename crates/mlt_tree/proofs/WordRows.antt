@@ -5,7 +5,7 @@ use Rattle.mlt_base.specs.Name.{name_of}
 use Rattle.mlt_tree.specs.declared.group.Group.{Group}
 use Rattle.mlt_tree.specs.declared.group.GroupKind.{GroupKind}
 use Rattle.mlt_tree.specs.declared.group.GroupKind.TheVariants.{Producer, Split, Filter, Track, NullTrack}
-use Rattle.mlt_tree.specs.Table.{option_of, row_of}
+use Rattle.mlt_tree.specs.Table.{option_of, option_row}
 use Rattle.mlt_tree.specs.Words.{groups, step, finish, option_word, property_word, fault}
 
 -- a group without properties
@@ -80,12 +80,12 @@ stray_at_front = refl
 
 -- the word of a kind, by the table
 abbrev word_of : GroupKind → Option (List ℕ)
-word_of kind = option_map (λ row. name_of row.name) (row_of kind)
+word_of kind = option_map (λ row. name_of row.name) (option_row kind)
 
 name_of_kind : word_of NullTrack ≡ Some (codes "-null-track")
-unfolding row_of
+unfolding option_row
 name_of_kind = refl
 
 of_no_option : word_of Producer ≡ None
-unfolding row_of
+unfolding option_row
 of_no_option = refl

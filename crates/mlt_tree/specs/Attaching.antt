@@ -19,7 +19,7 @@ use Rattle.mlt_tree.specs.declared.services.FilterKind.TheVariants as filter
 use Rattle.mlt_tree.specs.declared.services.FilterRow.{FilterRow}
 use Rattle.mlt_tree.specs.declared.services.TheConstants as row
 use Rattle.mlt_tree.specs.declared.tree.Attached.{Attached}
-use Rattle.mlt_tree.specs.Composition.{State, props_of, track, on_last, edited}
+use Rattle.mlt_tree.specs.Composition.{State, props_of, track, edited}
 use Rattle.mlt_tree.specs.Edits as edit
 use Rattle.mlt_tree.specs.Props.{count, choice, animated, letters, moment, moment_or_first}
 use Rattle.mlt_tree.specs.Refusing.{refuse, or_refuse}
@@ -102,11 +102,11 @@ attached_from start frames asked =
 
 -- what is done with the clip that stands last, by its unit and its frames
 abbrev pub on_clip : State → Group → (UnitId → Span → Result State Refusal) → Result State Refusal
-on_clip s g act = on_last s g (λ last. by last (slice_get (track s) last)) where
-  by : ℕ → Option Entry → Result State Refusal
-  by last None = refuse g.place (cause.BadClip last (length (track s)))
-  by last (Some (Gap frames)) = refuse g.place (cause.BadClip last (length (track s)))
-  by last (Some (Clip unit span filters)) = act unit span
+on_clip s g act = by (slice_get (track s) (length (track s) - 1)) where
+  by : Option Entry → Result State Refusal
+  by None = refuse g.place (cause.TooFew 1 0)
+  by (Some (Gap frames)) = refuse g.place (cause.BadClip (length (track s) - 1) (length (track s)))
+  by (Some (Clip unit span filters)) = act unit span
 
 -- on the last clip, from its first frame on
 abbrev pub attached_to_clip : State → Group → Asked → Result State Refusal

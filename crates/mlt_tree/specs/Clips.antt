@@ -15,7 +15,7 @@ use Rattle.mlt_tree.specs.Edits as edit
 use Rattle.mlt_tree.specs.Edits.{clip}
 use Rattle.mlt_tree.specs.Props.{number, moment, moment_or_first}
 use Rattle.mlt_tree.specs.Refusing.{refuse, or_refuse, at_group}
-use Rattle.mlt_tree.specs.Services.{Named, producer_of, colour_name}
+use Rattle.mlt_tree.specs.Services.{producer_of, colour_name}
 use Rattle.mlt_tree.specs.Show.{Source, Plain, Drawn, kind_of}
 use Rattle.mlt_tree.specs.Units.{source_unit}
 
@@ -38,36 +38,43 @@ pub data Origin : Type 0 where
   OfColour : Pixel → Origin
   -- the file of a picture
   OfPicture : (name : List ℕ) → Origin
+  -- the file of words
+  OfWords : (name : List ℕ) → Origin
 
--- the value of a service
-abbrev pub origin_of : ℕ → Named → Result Origin Refusal
-origin_of place named = by named.producer where
-  by : Producer → Result Origin Refusal
-  by Colour = or_refuse place cause.BadValue (colour_of (colour_name named.arg)) >>= λ pixel. Ok (OfColour pixel)
-  by Picture = Ok (OfPicture named.arg)
-  by Sound = refuse place cause.Unsupported
-  by Melt = refuse place cause.Unsupported
-
--- the first frame and the last, and the length
+-- the first frame and the last, and the length, where they are given
 pub record Wanted : Type 0 where
   pub first : ℕ
   pub last : Option ℕ
   pub length : Option ℕ
 
-unfoldable pub wanted_by : State → Group → Result Wanted Refusal
-wanted_by s g = do
+-- the first frame and the last
+unfoldable pub range_by : State → Group → Result Wanted Refusal
+range_by s g = do
   first ← moment_or_first row.IN s.profile (props_of s g)
   last ← moment row.OUT s.profile (props_of s g)
-  length ← number row.LENGTH (props_of s g)
-  Ok (record { first = first; last = last; length = length })
+  Ok (record { first = first; last = last; length = None })
 
--- the service, its value, and the range
-unfoldable pub asked_for : State → Group → Result (Origin × Wanted) Refusal
-asked_for s g = do
-  named ← or_refuse g.place cause.UnknownService (producer_of g.arg)
-  from ← origin_of g.place named
+-- and then the length
+unfoldable pub wanted_by : State → Group → Result Wanted Refusal
+wanted_by s g = do
+  range ← range_by s g
+  length ← number row.LENGTH (props_of s g)
+  Ok (record range { length = length })
+
+-- what a service takes: its value, then its properties in the order of their table
+abbrev pub asked_of : State → Group → (value : List ℕ) → Producer → Result (Origin × Wanted) Refusal
+asked_of s g value Colour = do
+  pixel ← or_refuse g.place cause.BadValue (colour_of (colour_name value))
   asked ← wanted_by s g
-  Ok (from, asked)
+  Ok (OfColour pixel, asked)
+asked_of s g value Picture = wanted_by s g >>= λ asked. Ok (OfPicture value, asked)
+asked_of s g value Sound = refuse g.place cause.Unsupported
+asked_of s g value Melt = range_by s g >>= λ asked. Ok (OfWords value, asked)
+
+-- the service that the word names, with what it takes
+unfoldable pub asked_for : State → Group → Result (Origin × Wanted) Refusal
+asked_for s g =
+    or_refuse g.place cause.UnknownService (producer_of g.arg) >>= λ named. asked_of s g named.arg named.producer
 
 -- ---- what it makes
 

@@ -1,5 +1,5 @@
 -- A composition as far as its words are read, and what one group does to it.
-use Rattle.std.specs.Prelude.{ℕ, ℤ, ◌-◌, Bool, true, false, if◌then◌else◌, List, [], ◌∷◌, ◌++◌, length, Option, None, Some, Result, Ok}
+use Rattle.std.specs.Prelude.{ℕ, ℤ, ◌-◌, Bool, true, false, List, [], ◌∷◌, ◌++◌, length, Option, None, Some, Result, Ok}
 use Rattle.mlt_base.specs.declared.limits.TheConstants.{MOST_ENTRIES}
 use Rattle.mlt_base.specs.declared.table.TheConstants.{DV_PAL}
 use Rattle.mlt_base.specs.Profile.{Measures, row_measures, profile}
@@ -14,12 +14,12 @@ use Rattle.mlt_tree.specs.declared.refusal.Cause.TheVariants as cause
 use Rattle.mlt_tree.specs.declared.refusal.Refusal.{Refusal}
 use Rattle.mlt_tree.specs.declared.services.TheConstants as row
 use Rattle.mlt_tree.specs.Edits as edit
-use Rattle.mlt_tree.specs.Edits.{Edit}
+use Rattle.mlt_tree.specs.Edits.{Edited}
 use Rattle.mlt_tree.specs.Props.{counted, timed, count, distance, choice, moment}
-use Rattle.mlt_tree.specs.Refusing.{refuse, or_refuse, at_word, at_group}
+use Rattle.mlt_tree.specs.Refusing.{refuse, or_refuse, at_word, at_group, only_one}
 use Rattle.mlt_tree.specs.Services.{raw_of}
 use Rattle.mlt_tree.specs.Show.{Source, Pix, Rgb, Rgba}
-use Rattle.mlt_tree.specs.Table.{is_kind}
+use Rattle.mlt_tree.specs.Table.{of_kind}
 use Rattle.mlt_tree.specs.Units.{Level, empty_level, with_entries, list_unit}
 
 -- ---- the profile
@@ -27,13 +27,12 @@ use Rattle.mlt_tree.specs.Units.{Level, empty_level, with_entries, list_unit}
 abbrev pub default_profile : Measures
 default_profile = row_measures DV_PAL
 
-abbrev pub profile_named : Option Measures → Group → Result (Option Measures) Refusal
-profile_named None g = or_refuse g.place cause.BadValue (profile g.arg) >>= λ m. Ok (Some m)
-profile_named (Some first) g = refuse g.place (cause.TooMany 1)
+abbrev pub profile_read : Group → Result Measures Refusal
+profile_read g = or_refuse g.place cause.BadValue (profile g.arg)
 
--- the first `-profile` counts, and a second is refused
-unfoldable pub profile_step : Option Measures → Group → Result (Option Measures) Refusal
-profile_step found g = if is_kind kind.Profile (Some g.kind) then profile_named found g else Ok found
+-- the profile that is named, if one is; a second `-profile` is refused
+unfoldable pub profile_named : List Group → Result (Option Measures) Refusal
+profile_named gs = only_one profile_read (of_kind kind.Profile gs)
 
 -- ---- the state of a composition
 
@@ -71,8 +70,8 @@ pub record State : Type 0 where
   pub consumer : Option Consumer
 
 -- before the first of so many words
-abbrev pub start : Measures → ℕ → State
-start profile words = record {
+abbrev pub begun : Measures → ℕ → State
+begun profile words = record {
   profile = profile;
   made = record { units = []; sources = []; loaded = 0; words = words };
   level = empty_level;
@@ -94,7 +93,7 @@ abbrev pub with_track : State → List Entry → State
 with_track s es = record s { level = with_entries s.level es }
 
 -- an edit of the track, whose refusal is its group's
-abbrev pub edited : {A : Type 0} → State → Group → Edit A → Result State Refusal
+abbrev pub edited : {A : Type 0} → State → Group → Edited A → Result State Refusal
 edited s g done = at_group g.place done >>= λ answer. Ok (with_track s answer.1)
 
 -- ---- edits of the track
@@ -124,14 +123,15 @@ split s g = at_word g.place (whole g.arg) >>= split_at_frame s g
 abbrev pub swap : State → Group → Result State Refusal
 swap s g = edited s g (edit.swap_last (track s))
 
--- the last n entries become one clip of a new unit
-abbrev pub joined : State → Group → ℕ → Result State Refusal
-joined s g n = do
-  done ← at_group g.place (edit.join (length (track s) - n) n (length s.made.units) (track s))
+-- n entries from an index on become one clip of a new unit
+abbrev pub joined_at : State → Group → (at n : ℕ) → Result State Refusal
+joined_at s g at n = do
+  done ← at_group g.place (edit.join at n (length s.made.units) (track s))
   Ok (record (with_track s done.1) { made = record s.made { units = s.made.units ++ list_unit done.0 ∷ [] } })
 
+-- the last n entries are joined
 unfoldable pub join : State → Group → Result State Refusal
-join s g = counted 1 MOST_ENTRIES g.place g.arg >>= joined s g
+join s g = counted 1 MOST_ENTRIES g.place g.arg >>= λ n. joined_at s g (length (track s) - n) n
 
 -- ---- the consumer
 

@@ -2,36 +2,36 @@
 -- green, blue and alpha; an alpha stays where nothing else is said.
 use Rattle.std.specs.Prelude.{ℕ, ◌+◌, ◌-◌, ◌*◌, ◌/◌, ◌%◌, ◌==◌, ◌||◌, min, nat_le, nat_lt, Bool, true, false, if◌then◌else◌, List, length, slice_index}
 use Rattle.mlt_base.specs.Fitting.{channel_at}
-use Rattle.mlt_base.specs.Mixing.{table, lit, luma, scaled}
+use Rattle.mlt_base.specs.Mixing.{table, lit, lightness, scaled}
 use Rattle.mlt_tree.specs.declared.filter.FilterStep.{FilterStep}
 use Rattle.mlt_tree.specs.declared.filter.FilterStep.TheVariants.{Brightness, Greyscale, Invert, Mirror, Crop, Threshold, Sepia, Obscure, Opacity, SwapChannels, Volume, Mono, ChannelCopy, ChannelSwap, Silence}
 
 -- ---- filters of one pixel
 
 -- the brightness of byte k's pixel
-abbrev pub luma_at : List ℕ → ℕ → ℕ
-luma_at xs k = luma (slice_index xs (k / 4 * 4)) (slice_index xs (k / 4 * 4 + 1)) (slice_index xs (k / 4 * 4 + 2))
+abbrev pub lightness_at : List ℕ → ℕ → ℕ
+lightness_at xs k = lightness (slice_index xs (k / 4 * 4)) (slice_index xs (k / 4 * 4 + 1)) (slice_index xs (k / 4 * 4 + 2))
 
 -- a new colour, where byte k is one; an alpha stays
 abbrev pub coloured : List ℕ → ℕ → (colour : ℕ) → ℕ
 coloured xs k colour = if k % 4 == 3 then slice_index xs k else colour
 
 abbrev pub greyscale : List ℕ → ℕ → ℕ
-greyscale xs k = coloured xs k (luma_at xs k)
+greyscale xs k = coloured xs k (lightness_at xs k)
 
 abbrev pub invert : List ℕ → ℕ → ℕ
 invert xs k = coloured xs k (255 - slice_index xs k)
 
 -- white from a brightness on, else black
 abbrev pub threshold : (midpoint : ℕ) → List ℕ → ℕ → ℕ
-threshold midpoint xs k = coloured xs k (if nat_le midpoint (luma_at xs k) then 255 else 0)
+threshold midpoint xs k = coloured xs k (if nat_le midpoint (lightness_at xs k) then 255 else 0)
 
 -- how much red and green are raised over the brightness
 abbrev pub tint : (channel : ℕ) → ℕ
 tint channel = 40 - 20 * channel
 
 abbrev pub sepia : List ℕ → ℕ → ℕ
-sepia xs k = coloured xs k (min 255 (luma_at xs k + tint (k % 4)))
+sepia xs k = coloured xs k (min 255 (lightness_at xs k + tint (k % 4)))
 
 -- an alpha at a level; colours stay
 abbrev pub opacity : (level : ℕ) → List ℕ → ℕ → ℕ

@@ -1,5 +1,5 @@
--- The words of groups, and what is true of groups that were read from words.
-use Rattle.std.specs.Prelude.{ℕ, ◌+◌, ◌<◌, ◌≤◌, ◌≡◌, ◌↔◌, Bool, true, false, if◌then◌else◌, List, [], ◌∷◌, ◌++◌, length, map, fold, max, All, Option, None, Some, Ok}
+-- What groups of words are: the words of each group, and when words are those of groups.
+use Rattle.std.specs.Prelude.{ℕ, ◌+◌, ◌<◌, ◌≤◌, ◌≡◌, ◌==◌, Bool, true, false, if◌then◌else◌, List, [], ◌∷◌, ◌++◌, length, map, fold, max, All, Option, None, Some}
 use Rattle.std.specs.List.{flat_map, enumerate_from, list_any}
 use Rattle.std.specs.Str.{byte}
 use Rattle.mlt_base.specs.Name.{name_of}
@@ -8,8 +8,16 @@ use Rattle.mlt_tree.specs.declared.group.Group.{Group}
 use Rattle.mlt_tree.specs.declared.group.GroupKind.TheVariants.{Producer}
 use Rattle.mlt_tree.specs.declared.group.Prop.{Prop}
 use Rattle.mlt_tree.specs.declared.table.Row.{Row}
-use Rattle.mlt_tree.specs.Table.{row_of}
-use Rattle.mlt_tree.specs.Words.{is_option, is_equals, groups}
+use Rattle.mlt_tree.specs.Table.{option_row}
+
+-- a word that begins with `-` and goes on
+abbrev pub is_option : List ℕ → Bool
+is_option [] = false
+is_option (c ∷ []) = false
+is_option (c ∷ d ∷ more) = c == byte "-"
+
+abbrev pub is_equals : ℕ → Bool
+is_equals c = c == byte "="
 
 -- the word of a property, with its place
 abbrev pub prop_word : Prop → ℕ × List ℕ
@@ -22,22 +30,14 @@ own_words_by group (Some row) =
 
 -- a producer is its word; an option its name, and then its argument where it takes one
 abbrev pub own_words : Group → List (ℕ × List ℕ)
-own_words group = own_words_by group (row_of group.kind)
+own_words group = own_words_by group (option_row group.kind)
 
 abbrev pub words_of : Group → List (ℕ × List ℕ)
 words_of group = own_words group ++ map prop_word group.props
 
--- no word is lost, made or moved: those of the groups, in order, are the words that were read
-abbrev pub KeepsWords : Type 0
-KeepsWords = (words : List (List ℕ)) (gs : List Group) → groups words ≡ Ok gs → flat_map words_of gs ≡ enumerate_from 0 words
-
 -- how many words groups are made of: one more than the greatest place of a word of theirs
 abbrev pub words_in : List Group → ℕ
 words_in gs = fold (λ most word. max most (word.0 + 1)) 0 (flat_map words_of gs)
-
--- words that were read into groups are so many
-abbrev pub CountsWords : Type 0
-CountsWords = (words : List (List ℕ)) (gs : List Group) → groups words ≡ Ok gs → words_in gs ≡ length words
 
 -- whether groups of this option have an argument; a producer's is its word
 abbrev pub takes_argument : Option Row → Bool
@@ -56,12 +56,9 @@ pub record IsAllowedProp (prop : Prop) : Type 0 where
 -- a group that words can have: its places are few, and it has an argument, or properties, only where it may
 pub record IsAllowed (group : Group) : Type 0 where
   pub place : group.place < MOST_WORDS
-  pub argument : takes_argument (row_of group.kind) ≡ false → group.arg ≡ []
-  pub properties : takes_properties (row_of group.kind) ≡ false → group.props ≡ []
+  pub argument : takes_argument (option_row group.kind) ≡ false → group.arg ≡ []
+  pub properties : takes_properties (option_row group.kind) ≡ false → group.props ≡ []
   pub each : All IsAllowedProp group.props
-
-abbrev pub GivesAllowed : Type 0
-GivesAllowed = (words : List (List ℕ)) (gs : List Group) → groups words ≡ Ok gs → All IsAllowed gs
 
 -- whether a `=` is in the word
 abbrev pub has_equals : List ℕ → Bool
@@ -88,8 +85,3 @@ pub record AreGroupsOf (words : List (List ℕ)) (gs : List Group) : Type 0 wher
   pub kept : flat_map words_of gs ≡ enumerate_from 0 words
   pub allowed : All IsAllowed gs
   pub readable : All IsReadable gs
-
--- words are read into exactly the groups that they can be, and no words can be two lists of groups
-pub record DeterminesGroups : Type 0 where
-  pub exact : (words : List (List ℕ)) (gs : List Group) → groups words ≡ Ok gs ↔ AreGroupsOf words gs
-  pub one : (words : List (List ℕ)) (gs hs : List Group) → AreGroupsOf words gs → AreGroupsOf words hs → gs ≡ hs

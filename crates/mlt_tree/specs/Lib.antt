@@ -28,4 +28,5 @@ pub mod Table
 pub mod Tree
 pub mod Unbuilt
 pub mod Units
+pub mod WordLaws
 pub mod Words

@@ -4,11 +4,11 @@ use Rattle.std.specs.Prelude.{ℕ, ℤ, pos, negsuc, ◌+◌, ◌-◌, ◌*◌, 
 use Rattle.mlt_base.specs.declared.geometry.Geometry.{Geometry}
 use Rattle.mlt_base.specs.declared.profile.SourceNo.{SourceNo}
 use Rattle.mlt_base.specs.Fitting.{stretched_at}
-use Rattle.mlt_base.specs.Mixing.{table, mixed, dissolved, alpha_at, strength, laid_channel}
+use Rattle.mlt_base.specs.Mixing.{table, blended, dissolved, alpha_at, strength, laid_channel}
 use Rattle.mlt_base.specs.Still.{Picture}
 use Rattle.mlt_tree.specs.declared.merge.MergeStep.{MergeStep}
 use Rattle.mlt_tree.specs.declared.merge.MergeStep.TheVariants.{Luma, Composite, Matte, Mix, Sum}
-use Rattle.mlt_tree.specs.Filters.{luma_at, column, row}
+use Rattle.mlt_tree.specs.Filters.{lightness_at, column, row}
 
 -- ---- from one picture to the other
 
@@ -28,18 +28,18 @@ turned softness edge at =
 
 -- how much of byte k's pixel has turned, by a map
 abbrev pub share_at : (softness q : ℕ) → (map : List ℕ) → ℕ → ℕ
-share_at softness q map k = turned softness (edge softness q) (reached_at (luma_at map k))
+share_at softness q map k = turned softness (edge softness q) (reached_at (lightness_at map k))
 
 abbrev pub luma : (map : Option (List ℕ)) → (softness q : ℕ) → List ℕ → List ℕ → ℕ → ℕ
 luma None softness q xs zs k = dissolved q xs zs k
-luma (Some map) softness q xs zs k = mixed (share_at softness q map k) (slice_index xs k) (slice_index zs k)
+luma (Some map) softness q xs zs k = blended (share_at softness q map k) (slice_index xs k) (slice_index zs k)
 
 -- ---- one picture laid over the other
 
 -- how far a place lies behind a start, which may stand before the first place, where it is one of so many from there
-abbrev pub within : (start : ℤ) → (count at : ℕ) → Option ℕ
-within (pos start) count at = if nat_le start at && nat_lt at (start + count) then Some (at - start) else None
-within (negsuc start) count at = if nat_lt (at + start + 1) count then Some (at + start + 1) else None
+abbrev pub offset_in : (start : ℤ) → (count at : ℕ) → Option ℕ
+offset_in (pos start) count at = if nat_le start at && nat_lt at (start + count) then Some (at - start) else None
+offset_in (negsuc start) count at = if nat_lt (at + start + 1) count then Some (at + start + 1) else None
 
 -- a byte x of alpha a, with that channel of a pixel of z laid over it that the channels of z tell
 abbrev pub laid_by : (opacity : ℕ) → (z : ℕ → ℕ) → (channel a x : ℕ) → ℕ
@@ -47,7 +47,7 @@ laid_by opacity z channel a x = laid_channel channel a (strength (z 3) opacity) 
 
 -- row b stretched to the rectangle of a geometry, and laid over row a there
 abbrev pub composite : Geometry → (width height : ℕ) → List ℕ → List ℕ → ℕ → ℕ
-composite geometry width height xs zs k = by (within geometry.x geometry.width (column width k)) (within geometry.y geometry.height (row width k)) where
+composite geometry width height xs zs k = by (offset_in geometry.x geometry.width (column width k)) (offset_in geometry.y geometry.height (row width k)) where
   above : Picture
   above = record { width = width; height = height; pixels = zs }
 
@@ -60,7 +60,7 @@ composite geometry width height xs zs k = by (within geometry.x geometry.width (
 -- ---- one picture as the other's alpha
 
 abbrev pub matte : List ℕ → List ℕ → ℕ → ℕ
-matte xs zs k = if k % 4 == 3 then luma_at zs k else slice_index xs k
+matte xs zs k = if k % 4 == 3 then lightness_at zs k else slice_index xs k
 
 -- ---- a merge at a position
 

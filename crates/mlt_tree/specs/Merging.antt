@@ -16,7 +16,7 @@ use Rattle.mlt_tree.specs.Attaching.{ordered, valued}
 use Rattle.mlt_tree.specs.Composition.{Made, State, props_of}
 use Rattle.mlt_tree.specs.Loaded.{picture_loaded}
 use Rattle.mlt_tree.specs.Loading.{Files, Read, done, plainly, ◌>>=◌}
-use Rattle.mlt_tree.specs.Planting.{Crossing, crossing, planted}
+use Rattle.mlt_tree.specs.Planting.{Crossing, crossing, with_planted}
 use Rattle.mlt_tree.specs.Props.{share, area, file_name}
 use Rattle.mlt_tree.specs.Refusing.{refuse, or_refuse}
 use Rattle.mlt_tree.specs.Services.{called, merge_named}
@@ -65,7 +65,7 @@ merge_of g = plainly (or_refuse g.place cause.UnknownService (merge_named (calle
 
 abbrev pub crossed : State → Group → Crossing → Merging → State
 crossed s g tracks merging =
-    planted (record s { made = merging.made }) g.place (Between tracks.a tracks.b merging.spec tracks.first tracks.last)
+    with_planted (record s { made = merging.made }) g.place (Between tracks.a tracks.b merging.spec tracks.first tracks.last)
 
 unfoldable pub merge_planted : Files → State → Group → MergeRow → Read State
 merge_planted files s g service = do

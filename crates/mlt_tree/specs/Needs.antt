@@ -1,4 +1,5 @@
--- The sources that a picture is made of.
+-- The sources that a picture is made of. A merge's map is not one of them: it is no part of the picture, and is read
+-- wherever the merge acts.
 use Rattle.std.specs.Prelude.{ℕ, ◌+◌, ◌-◌, ◌&&◌, ◌≡◌, ◌≤◌, nat_lt, nat_eq, if◌then◌else◌, List, [], ◌∷◌, ◌++◌, fold, Option, None, Some}
 use Rattle.std.specs.List.{list_any}
 use Rattle.std.specs.Option.{option_map}
@@ -12,13 +13,13 @@ abbrev pub presence : Matter (Unit {0})
 presence = record { source = λ source n. tt; filter = λ step x. x; merge = λ step under x. x }
 
 -- the rows of a set, below those of another
-abbrev pub joined : Option (List ℕ) → List ℕ → List ℕ
-joined None set = set
-joined (Some under) set = under ++ set
+abbrev pub rows_joined : Option (List ℕ) → List ℕ → List ℕ
+rows_joined None set = set
+rows_joined (Some under) set = under ++ set
 
 -- the rows that a row's picture is made of: filters leave them, and a merge joins them
 abbrev pub row_sets : Matter (List ℕ)
-row_sets = record { source = λ source n. []; filter = λ step set. set; merge = λ step. joined }
+row_sets = record { source = λ source n. []; filter = λ step set. set; merge = λ step. rows_joined }
 
 -- from the given number on, each row that has something is made of itself alone
 abbrev pub alone : {A : Type 0} → ℕ → List (Option A) → List (Option (List ℕ))

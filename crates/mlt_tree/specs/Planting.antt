@@ -34,20 +34,21 @@ begin_track video audio s g = do
 
 -- ---- mixes
 
--- the last two entries overlap, by a new unit
-abbrev pub mixed : State → Group → ℕ → Result State Refusal
-mixed s g n = do
-  done ← at_group g.place (edit.mix (length (track s) - 2) n (length s.made.units) (track s))
+-- two entries from an index on overlap, by a new unit
+abbrev pub mixed_at : State → Group → (at n : ℕ) → Result State Refusal
+mixed_at s g at n = do
+  done ← at_group g.place (edit.mix at n (length s.made.units) (track s))
   Ok (record (with_track s done.1) { made = record s.made { units = s.made.units ++ mix_unit done.0.a done.0.b done.0.frames ∷ [] }; last_mix = Some (length s.made.units) })
 
+-- the last two entries overlap
 unfoldable pub mix : State → Group → Result State Refusal
-mix s g = counted 1 MOST_FRAMES g.place g.arg >>= mixed s g
+mix s g = counted 1 MOST_FRAMES g.place g.arg >>= λ n. mixed_at s g (length (track s) - 2) n
 
 -- ---- filters on tracks
 
 -- with one plant more; its place is kept, since the tracks are known when all words are read
-abbrev pub planted : State → (place : ℕ) → PendingPlant → State
-planted s place plant =
+abbrev pub with_planted : State → (place : ℕ) → PendingPlant → State
+with_planted s place plant =
     record s { level = with_plant s.level plant; plant_places = s.plant_places ++ place ∷ [] }
 
 -- the number of the current track
@@ -58,7 +59,7 @@ unfoldable pub filter_planted : State → Group → FilterRow → Result State R
 filter_planted s g service = do
   named ← number row.TRACK (filter_props s g service)
   asked ← asked_by s g service.kind (filter_props s g service)
-  Ok (planted s g.place (OnTrack (unwrap_or named (current s)) asked.spec asked.first asked.last))
+  Ok (with_planted s g.place (OnTrack (unwrap_or named (current s)) asked.spec asked.first asked.last))
 
 unfoldable pub plant_filter : State → Group → Result State Refusal
 plant_filter s g = or_refuse g.place cause.UnknownService (filter_named (called g.arg).id) >>= filter_planted s g

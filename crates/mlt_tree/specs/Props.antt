@@ -53,13 +53,13 @@ prop_or read default None = read 0 (name_of default)
 prop_or read default (Some prop) = read prop.place prop.value
 
 -- a whole number from low to high, none of them below 0
-abbrev pub within : ℕ → ℕ → ℕ → ℤ → Result ℕ Refusal
-within low high place (pos n) =
+abbrev pub in_range : ℕ → ℕ → ℕ → ℤ → Result ℕ Refusal
+in_range low high place (pos n) =
     if nat_le low n && nat_le n high then Ok n else refuse place (OutOfRange (pos n) (pos low) (pos high))
-within low high place (negsuc n) = refuse place (OutOfRange (negsuc n) (pos low) (pos high))
+in_range low high place (negsuc n) = refuse place (OutOfRange (negsuc n) (pos low) (pos high))
 
 unfoldable pub counted : ℕ → ℕ → ℕ → List ℕ → Result ℕ Refusal
-counted low high place text = at_word place (whole text) >>= within low high place
+counted low high place text = at_word place (whole text) >>= in_range low high place
 
 -- how far a whole number is from 0, at most high
 abbrev pub distance_within : ℕ → ℕ → ℤ → Result ℕ Refusal

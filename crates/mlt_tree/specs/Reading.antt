@@ -1,14 +1,13 @@
 -- What a list of words means.
-use Rattle.std.specs.Prelude.{ℕ, Bool, if◌then◌else◌, List, [], ◌∷◌, length, map, Option, None, Some, Result, Ok, Err, find, codes}
+use Rattle.std.specs.Prelude.{ℕ, if◌then◌else◌, List, [], ◌∷◌, length, map, Option, None, Some, Result, Ok, Err, find, codes}
 use Rattle.std.specs.List.{list_any}
-use Rattle.std.specs.Option.{option_map}
+use Rattle.std.specs.Option.{option_or}
 use Rattle.std.specs.Str.{bytes_eq}
 use Rattle.mlt_base.specs.declared.faults.WordFault.{WordFault}
 use Rattle.mlt_base.specs.declared.port.Port.{Port}
 use Rattle.mlt_base.specs.declared.port.Port.TheVariants.{Text}
 use Rattle.mlt_base.specs.declared.table.TheConstants.{PROFILES}
 use Rattle.mlt_tree.specs.declared.group.Group.{Group}
-use Rattle.mlt_tree.specs.declared.group.GroupKind.{GroupKind}
 use Rattle.mlt_tree.specs.declared.group.GroupKind.TheVariants as kind
 use Rattle.mlt_tree.specs.declared.query.QueryKind.{QueryKind}
 use Rattle.mlt_tree.specs.declared.query.QueryKind.TheVariants.{Producers, Filters, Transitions, Consumers, Profiles}
@@ -17,11 +16,10 @@ use Rattle.mlt_tree.specs.declared.refusal.Refusal.{Refusal}
 use Rattle.mlt_tree.specs.declared.services.TheConstants.{PRODUCERS, CONSUMERS, FILTERS, MERGES}
 use Rattle.mlt_tree.specs.Composing.{show_of}
 use Rattle.mlt_tree.specs.Loading.{Files, no_files, Load, Stop, Read, done, plainly, ◌>>=◌}
-use Rattle.mlt_tree.specs.Meaning.{or_under}
-use Rattle.mlt_tree.specs.Refusing.{refuse, or_refuse, over, word_cause}
+use Rattle.mlt_tree.specs.Refusing.{refuse, or_refuse, only_one, word_cause}
 use Rattle.mlt_tree.specs.Services.{listed}
 use Rattle.mlt_tree.specs.Show.{Show, written_name, prefix, written_frames}
-use Rattle.mlt_tree.specs.Table.{is_kind}
+use Rattle.mlt_tree.specs.Table.{is_of, of_kind}
 use Rattle.mlt_tree.specs.Words.{groups}
 
 -- a question that is answered on the text
@@ -40,20 +38,16 @@ Reading = Result Job Stop
 
 -- ---- the job
 
-abbrev pub is_of : GroupKind → Group → Bool
-is_of kind g = is_kind kind (Some g.kind)
-
 abbrev pub query_named : List ℕ → Option QueryKind
 query_named text =
     if bytes_eq text (codes "producers") then Some Producers else (if bytes_eq text (codes "filters") then Some Filters else (if bytes_eq text (codes "transitions") then Some Transitions else (if bytes_eq text (codes "consumers") then Some Consumers else (if bytes_eq text (codes "profiles") then Some Profiles else None))))
 
-abbrev pub query_again : Option QueryKind → Group → Result (Option QueryKind) Refusal
-query_again None g = or_refuse g.place cause.BadValue (option_map Some (query_named g.arg))
-query_again (Some asked) g = refuse g.place (cause.TooMany 1)
+abbrev pub query_asked : Group → Result QueryKind Refusal
+query_asked g = or_refuse g.place cause.BadValue (query_named g.arg)
 
--- the first `-query` counts, and a second is refused
-unfoldable pub query_step : Option QueryKind → Group → Result (Option QueryKind) Refusal
-query_step asked g = if is_of kind.Query g then query_again asked g else Ok asked
+-- the question that is asked, if one is; a second `-query` is refused
+unfoldable pub query_made : List Group → Result (Option QueryKind) Refusal
+query_made gs = only_one query_asked (of_kind kind.Query gs)
 
 abbrev pub query_job : Option QueryKind → Job
 query_job None = Print Version
@@ -67,7 +61,7 @@ show_read read = read >>= λ show. done (Play show)
 
 -- the first `-serialise`, else the first `-generate`: the jobs that are not built yet
 abbrev pub later_job : List Group → Option Group
-later_job gs = or_under (find (is_of kind.Serialise) gs) (find (is_of kind.Generate) gs)
+later_job gs = option_or (find (is_of kind.Serialise) gs) (find (is_of kind.Generate) gs)
 
 abbrev pub play_unless : Files → ℕ → List Group → Option Group → Read Job
 play_unless files count gs (Some g) = plainly (refuse g.place cause.Unsupported)
@@ -76,7 +70,7 @@ play_unless files count gs None = show_read (show_of files count gs)
 -- the first of these jobs that the words have, else to play
 abbrev pub job_of : Files → ℕ → List Group → Read Job
 job_of files count gs =
-    if list_any (is_of kind.Version) gs then done (Print Version) else (if list_any (is_of kind.Query) gs then query_read (over query_step None gs) else play_unless files count gs (later_job gs))
+    if list_any (is_of kind.Version) gs then done (Print Version) else (if list_any (is_of kind.Query) gs then query_read (query_made gs) else play_unless files count gs (later_job gs))
 
 abbrev pub groups_read : Result (List Group) WordFault → Result (List Group) Refusal
 groups_read (Err fault) = refuse fault.place (word_cause fault.cause)

@@ -6,6 +6,7 @@ use Rattle.mlt_base.specs.declared.faults.PlayFault.{PlayFault}
 use Rattle.mlt_base.specs.declared.faults.PlayFault.TheVariants as edit
 use Rattle.mlt_base.specs.declared.faults.WordCause.{WordCause}
 use Rattle.mlt_base.specs.declared.faults.WordCause.TheVariants as word
+use Rattle.mlt_tree.specs.declared.group.Group.{Group}
 use Rattle.mlt_tree.specs.declared.refusal.Cause.{Cause}
 use Rattle.mlt_tree.specs.declared.refusal.Cause.TheVariants.{UnknownOption, Unsupported, MissingArgument, StrayProperty, BadNumber, TooFew, BadClip, BadSplit, BadRange, TooMany, TooLong}
 use Rattle.mlt_tree.specs.declared.refusal.Refusal.{Refusal}
@@ -53,3 +54,9 @@ at_group place (Err fault) = refuse place (edit_cause fault)
 abbrev pub over : {S X : Type 0} → (S → X → Result S Refusal) → S → List X → Result S Refusal
 over step s [] = Ok s
 over step s (x ∷ xs) = step s x >>= λ t. over step t xs
+
+-- what the only one of these groups says, where there is one; a second is refused at its own place
+abbrev pub only_one : {A : Type 0} → (Group → Result A Refusal) → List Group → Result (Option A) Refusal
+only_one read [] = Ok None
+only_one read (g ∷ []) = read g >>= λ x. Ok (Some x)
+only_one read (g ∷ second ∷ more) = read g >>= λ x. refuse second.place (TooMany 1)

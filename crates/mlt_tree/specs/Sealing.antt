@@ -1,30 +1,32 @@
--- The frame of a composition, and its end: its tree, whether there is something to play, and not too much of it.
-use Rattle.std.specs.Prelude.{ℕ, ◌+◌, ◌-◌, ◌*◌, nat_le, nat_eq, max, if◌then◌else◌, List, [], ◌∷◌, ◌++◌, length, get_or, Option, None, Some, unwrap_or, Result, Ok, codes}
+-- The profile of a composition, and its end: its tree, whether there is something to play, and not too much of it.
+use Rattle.std.specs.Prelude.{ℕ, ◌+◌, ◌-◌, ◌*◌, ◌/◌, nat_le, nat_eq, max, if◌then◌else◌, List, [], ◌∷◌, ◌++◌, length, Option, None, Some, unwrap_or, Result, Ok, codes}
+use Rattle.std.specs.List.{zip}
 use Rattle.mlt_base.specs.Profile.{Measures}
 use Rattle.mlt_base.specs.Samples.{most_samples}
 use Rattle.mlt_base.specs.declared.limits.TheConstants as limit
 use Rattle.mlt_base.specs.Steps.{◌>>=◌}
+use Rattle.mlt_tree.specs.declared.draft.PendingPlant.{PendingPlant}
 use Rattle.mlt_tree.specs.declared.group.Group.{Group}
 use Rattle.mlt_tree.specs.declared.node.Node.{Node}
 use Rattle.mlt_tree.specs.declared.refusal.Cause.TheVariants as cause
 use Rattle.mlt_tree.specs.declared.refusal.Refusal.{Refusal}
 use Rattle.mlt_tree.specs.Clips.{Cut, cut_of}
 use Rattle.mlt_tree.specs.declared.services.TheConstants as row
-use Rattle.mlt_tree.specs.Composition.{Consumer, State, profile_step, default_profile}
+use Rattle.mlt_tree.specs.Composition.{Consumer, State, profile_named, default_profile}
 use Rattle.mlt_tree.specs.Refusing.{refuse, over}
 use Rattle.mlt_tree.specs.Show.{Show, Settings, Source, Rgb, S16, pixels_of}
 use Rattle.mlt_tree.specs.Sizes.{need, weight}
 use Rattle.mlt_tree.specs.Tree.{Tree, len}
 use Rattle.mlt_tree.specs.Unbuilt.{built_step}
-use Rattle.mlt_tree.specs.Units.{tree_of, depth_of, tractor_of, drafts_of, Misplaced, OffTracks, Doubled, level_misplaced}
+use Rattle.mlt_tree.specs.Units.{tree_of, depth_of, tractor_of, drafts_of, Misplaced, OffTracks, Doubled, misplaced}
 
 -- ---- the profile, which the first `-profile` gives
 
 -- what is not built is refused first
-unfoldable pub framed : List Group → Result Measures Refusal
-framed gs = do
+unfoldable pub profiled : List Group → Result Measures Refusal
+profiled gs = do
   all ← over built_step tt gs
-  profile ← over profile_step None gs
+  profile ← profile_named gs
   Ok (unwrap_or profile default_profile)
 
 -- ---- the end
@@ -50,13 +52,21 @@ default_consumer = record {
   last = None;
 }
 
--- the bytes of one picture or of one pair's sound in a frame, whichever is more
-abbrev pub unit_of : Measures → ℕ
-unit_of profile = max (pixels_of profile * 4) (4 * most_samples profile.num profile.den)
+-- the bytes of one picture, or of so many pairs of channels in a frame's sound, whichever is more
+abbrev pub unit_of : Measures → (pairs : ℕ) → ℕ
+unit_of profile pairs = max (pixels_of profile * 4) (4 * pairs * most_samples profile.num profile.den)
+
+-- the channels of a consumer's sound
+abbrev pub channels_of : Consumer → ℕ
+channels_of c = 2
+
+-- channels go in pairs, of which the last may have one
+abbrev pub pairs_of : (channels : ℕ) → ℕ
+pairs_of channels = (channels + 1) / 2
 
 -- the bytes that a run holds at most
 abbrev pub bytes_of : Measures → Consumer → ℕ → ℕ
-bytes_of profile c need = unit_of profile * (c.buffer + (c.workers + 1) * need + c.cache)
+bytes_of profile c need = unit_of profile (pairs_of (channels_of c)) * (c.buffer + (c.workers + 1) * need + c.cache)
 
 -- no sound is written yet
 abbrev pub settings_of : Consumer → Cut → Settings
@@ -70,7 +80,7 @@ settings_of c range = record {
   buffer = c.buffer;
   slices = c.slices;
   cache = c.cache;
-  channels = 2;
+  channels = channels_of c;
   format = S16;
 }
 
@@ -86,14 +96,18 @@ few_frames count range =
 abbrev pub few_bytes : ℕ → ℕ → Cut → Result Cut Refusal
 few_bytes count bytes range = if nat_le bytes limit.MOST_BYTES then Ok range else refuse count (cause.TooLarge bytes)
 
--- what is planted is on tracks that are there, of so many, by the places of the plants' groups
-abbrev pub placed : List ℕ → (tracks : ℕ) → Option (ℕ × Misplaced) → Result (Unit {0}) Refusal
-placed places tracks None = Ok tt
-placed places tracks (Some (plant, OffTracks track)) = refuse (get_or places plant 0) (cause.BadTrack track tracks)
-placed places tracks (Some (plant, Doubled track)) = refuse (get_or places plant 0) (cause.SameTrack track)
+-- what is wrong with a plant is refused at the place of its group
+abbrev pub refuse_plant : (place tracks : ℕ) → Option Misplaced → Result (Unit {0}) Refusal
+refuse_plant place tracks None = Ok tt
+refuse_plant place tracks (Some (OffTracks track)) = refuse place (cause.BadTrack track tracks)
+refuse_plant place tracks (Some (Doubled track)) = refuse place (cause.SameTrack track)
+
+-- each of these plants, with the place of its group, is on tracks that are there, of so many
+abbrev pub each_on_tracks : (tracks : ℕ) → List (ℕ × PendingPlant) → Result (Unit {0}) Refusal
+each_on_tracks tracks plants = over (λ done plant. refuse_plant plant.0 tracks (misplaced tracks plant.1)) tt plants
 
 abbrev pub plants_placed : State → Result (Unit {0}) Refusal
-plants_placed s = placed s.plant_places (length (drafts_of s.level)) (level_misplaced s.level)
+plants_placed s = each_on_tracks (length (drafts_of s.level)) (zip s.plant_places s.level.plants)
 
 -- something is played
 abbrev pub some_frames : ℕ → Tree → Result (Unit {0}) Refusal

@@ -1,5 +1,5 @@
 -- What is played, and the bytes that it gives.
-use Rattle.std.specs.Prelude.{ℕ, ◌+◌, ◌-◌, ◌*◌, zero, suc, List, [], ◌++◌, length, Option, None, Some, unwrap_or, slice_get}
+use Rattle.std.specs.Prelude.{ℕ, ◌+◌, ◌-◌, ◌*◌, zero, suc, List, [], ◌++◌, length, Option, None, Some, unwrap_or, slice_get, ◌≡◌, All}
 use Rattle.std.specs.Option.{option_map}
 use Rattle.mlt_base.specs.Colour.{Pixel}
 use Rattle.mlt_base.specs.Fitting.{fitted}
@@ -86,6 +86,19 @@ abbrev pub picture_of : Measures → Option Source → List ℕ
 picture_of profile None = clear (pixels_of profile)
 picture_of profile (Some source) = source_picture profile source
 
+-- the picture of a source of a table, fitted into the frame
+abbrev pub fitted_picture : Measures → List Source → ℕ → Picture
+fitted_picture profile table source = record { width = profile.width; height = profile.height; pixels = picture_of profile (slice_get table source) }
+
+-- a source's number, and a picture
+pub record Fit : Type 0 where
+  pub source : ℕ
+  pub picture : Picture
+
+-- each picture is that of its source, fitted into the frame
+abbrev pub AreFitted : Measures → List Source → List Fit → Type 0
+AreFitted profile table fits = All (λ fit. fit.picture ≡ fitted_picture profile table fit.source) fits
+
 -- the picture of the map of a merge, where it takes one
 abbrev pub map_picture : Measures → List Source → MergeStep → Option (List ℕ)
 map_picture profile sources step = option_map (λ no. picture_of profile (slice_get sources no.0)) (map_of step)
@@ -134,12 +147,37 @@ piece show Text n = []
 abbrev pub written_frames : Show → ℕ
 written_frames show = show.output.last + 1 - show.output.first
 
--- the bytes of the first so many positions, one after another
-abbrev pub prefix : Show → Port → ℕ → List ℕ
-prefix show port zero = []
-prefix show port (suc count) = prefix show port count ++ piece show port (show.output.first + count)
+-- ---- runs
 
--- how many source pictures the first so many positions are made of, together
-abbrev pub loads_to : Show → ℕ → ℕ
-loads_to show zero = 0
-loads_to show (suc count) = loads_to show count + length (needs show.tree (show.output.first + count))
+-- a run: the name of each output that is written, what each position gives to it, counted from 0, how many positions
+-- there are, how many sources each of them loads, and how many frames may be in work or waiting
+pub record Run : Type 0 where
+  pub name : Port → Option (List ℕ)
+  pub gives : Port → ℕ → List ℕ
+  pub frames : ℕ
+  pub loads : ℕ → ℕ
+  pub buffer : ℕ
+
+-- a show that is played: its positions from the first to the last
+abbrev pub played : Show → Run
+played show = record {
+  name = written_name show;
+  gives = λ port n. piece show port (show.output.first + n);
+  frames = written_frames show;
+  loads = λ n. length (needs show.tree (show.output.first + n));
+  buffer = show.output.buffer;
+}
+
+-- the bytes of the first so many positions of a run, one after another
+abbrev pub bytes_to : Run → Port → ℕ → List ℕ
+bytes_to run port zero = []
+bytes_to run port (suc count) = bytes_to run port count ++ run.gives port count
+
+-- how many sources the first so many positions of a run load, together
+abbrev pub loads_to : Run → ℕ → ℕ
+loads_to run zero = 0
+loads_to run (suc count) = loads_to run count + run.loads count
+
+-- the bytes of the first so many positions of a show, one after another
+abbrev pub prefix : Show → Port → ℕ → List ℕ
+prefix show port count = bytes_to (played show) port count

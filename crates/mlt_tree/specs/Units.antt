@@ -181,18 +181,22 @@ level_misplaced level = first_misplaced (length (drafts_of level)) 0 level.plant
 
 -- ---- mixes
 
--- the unit of a mix over so many frames: its two halves, over each other
-abbrev pub mix_unit : (a b : Entry) → (frames : ℕ) → Node
-mix_unit a b frames = record { body = Tractor (Half a frames ∷ Half b frames ∷ []) []; filters = [] }
-
--- over how many frames a mix is, as its first half says
-abbrev pub mix_frames : Body → ℕ
-mix_frames (Tractor (Half a frames ∷ tracks) plants) = frames
-mix_frames other = 0
-
 -- a merge of the halves, over all frames of their mix
 abbrev pub mixer : (frames : ℕ) → MergeSpec → Plant
 mixer frames spec = Between 0 1 spec (span 0 (frames - 1))
+
+-- a mix of a and b over so many frames: two halves over each other, with the merges that act on them
+abbrev pub mix_of : (a b : Entry) → (frames : ℕ) → (merges : List MergeSpec) → Body
+mix_of a b frames merges = Tractor (Half a frames ∷ Half b frames ∷ []) (map (mixer frames) merges)
+
+-- the unit of a mix, which has no merge yet
+abbrev pub mix_unit : (a b : Entry) → (frames : ℕ) → Node
+mix_unit a b frames = record { body = mix_of a b frames []; filters = [] }
+
+-- over how many frames a mix is, as its first half says; a body that is no mix is over none
+abbrev pub mix_frames : Body → ℕ
+mix_frames (Tractor (Half a frames ∷ tracks) plants) = frames
+mix_frames other = 0
 
 -- with one plant more, where it is of tracks
 abbrev pub planted_more : Body → Plant → Body
@@ -208,14 +212,14 @@ with_merge node spec = record node { body = planted_more node.body (mixer (mix_f
 abbrev pub with_mixer : List Node → ℕ → MergeSpec → List Node
 with_mixer nodes unit spec = set nodes unit (with_merge (get_or nodes unit (list_unit [])) spec)
 
--- what a mix is made of: two halves over each other, and over how many frames, of which there is one at least
+-- a mix: of which entries, over how many frames, of which there is one at least, and with which merges
 pub record IsMixOf (body : Body) : Type 0 where
   pub a : Entry
   pub b : Entry
   pub frames : ℕ
-  pub plants : List Plant
+  pub merges : List MergeSpec
   pub some : 1 ≤ frames
-  pub is : body ≡ Tractor (Half a frames ∷ Half b frames ∷ []) plants
+  pub is : body ≡ mix_of a b frames merges
 
 -- a numbered unit is there, and is a mix
 pub record IsMix (nodes : List Node) (unit : ℕ) : Type 0 where

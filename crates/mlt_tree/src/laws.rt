@@ -1,7 +1,15 @@
 //! Laws of the definitions: each is the contract of a function that does nothing.
 
-ghost use Rattle.mlt_tree.specs.GroupWords.{CountsWords, DeterminesGroups, GivesAllowed, KeepsWords};
+ghost use Rattle.std.specs.Prelude.{◌≡◌, ◌^◌};
+ghost use Rattle.mlt_tree.specs.declared.limits.TheConstants.{MOST_OF_FILE, MOST_LOADED};
+ghost use Rattle.mlt_tree.specs.WordLaws.{CountsWords, DeterminesGroups, GivesAllowed, KeepsWords};
 ghost use Rattle.mlt_tree.specs.Needs.{EndsAtItsLength};
+
+/// The limits of files that a run loads, each as a number of bytes.
+pub fn limits_of_files()
+    ensures file { MOST_OF_FILE ≡ 2 ^ 28 }
+    ensures all { MOST_LOADED ≡ 2 ^ 30 }
+{}
 
 /// Past its length a tree has no picture and no sound, and needs no source.
 pub fn ends_at_its_length()

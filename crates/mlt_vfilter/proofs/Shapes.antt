@@ -1,6 +1,6 @@
 -- Formulas of bytes that are filters of pixels.
 use Rattle.std.proofs.Common.{◌≡◌, ℕ, ◌+◌, ◌-◌, ◌*◌, ◌/◌, ◌%◌, ◌<◌, ◌==◌, min, nat_le, if◌then◌else◌, List, [], ◌∷◌, get_or, refl, sym, ap, ◌∙◌, arith}
-use Rattle.mlt_base.specs.Mixing.{lit, luma}
+use Rattle.mlt_base.specs.Mixing.{lit, lightness}
 use Rattle.mlt_kernel.specs.declared.pixel.Pixel.{Pixel}
 use Rattle.mlt_kernel.proofs.Levels.{scaled_held}
 use Rattle.mlt_tree.specs.Filters.{greyscale, invert, threshold, tint, sepia, opacity, swapchannels}
@@ -32,18 +32,18 @@ shaped_is body f xs each =
     ))
 
 pub grey_is : (xs : List ℕ) (k : ℕ) → pixelwise grey xs k ≡ greyscale xs k
-grey_is xs = shaped_is (λ c own r g b. if c == 3 then own else luma r g b) grey xs (λ q. (refl, refl, refl, refl))
+grey_is xs = shaped_is (λ c own r g b. if c == 3 then own else lightness r g b) grey xs (λ q. (refl, refl, refl, refl))
 
 pub inverted_is : (xs : List ℕ) (k : ℕ) → pixelwise inverted xs k ≡ invert xs k
 inverted_is xs = shaped_is (λ c own r g b. if c == 3 then own else 255 - own) inverted xs (λ q. (refl, refl, refl, refl))
 
 pub parted_is : (midpoint : ℕ) (xs : List ℕ) (k : ℕ) → pixelwise (parted midpoint) xs k ≡ threshold midpoint xs k
 parted_is midpoint xs =
-    shaped_is (λ c own r g b. if c == 3 then own else (if nat_le midpoint (luma r g b) then 255 else 0)) (parted midpoint) xs (λ q. (refl, refl, refl, refl))
+    shaped_is (λ c own r g b. if c == 3 then own else (if nat_le midpoint (lightness r g b) then 255 else 0)) (parted midpoint) xs (λ q. (refl, refl, refl, refl))
 
 pub brown_is : (xs : List ℕ) (k : ℕ) → pixelwise brown xs k ≡ sepia xs k
 brown_is xs =
-    shaped_is (λ c own r g b. if c == 3 then own else min 255 (luma r g b + tint c)) brown xs
+    shaped_is (λ c own r g b. if c == 3 then own else min 255 (lightness r g b + tint c)) brown xs
     (λ q. (refl, refl, ap (min 255) (omega arith), refl))
 
 pub faded_is : (level : ℕ) (xs : List ℕ) (k : ℕ) → pixelwise (faded level) xs k ≡ opacity level xs k

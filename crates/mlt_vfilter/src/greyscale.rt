@@ -5,7 +5,7 @@ ghost use Rattle.mlt_base.specs.Mixing.{table};
 ghost use Rattle.mlt_tree.specs.Filters.{greyscale};
 ghost use Rattle.mlt_vfilter.specs.Pixels.{grey};
 
-use crate::pixels::{PixelFilter, filter_each, lightness};
+use crate::pixels::{PixelFilter, filter_each, lightness_of};
 use mlt_kernel::Pixel;
 use mlt_slice::Bands;
 
@@ -17,7 +17,7 @@ impl PixelFilter for GreyscaleFilter {
     ghost makes = { λ _. grey };
 
     fn filter(self, pixel: Pixel) -> Pixel {
-        let light = lightness(pixel);
+        let light = lightness_of(pixel);
         Pixel {
             r: light,
             g: light,

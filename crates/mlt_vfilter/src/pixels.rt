@@ -4,7 +4,7 @@ ghost use Rattle.std.specs.Prelude.{◌≡◌, ◌+◌, ◌*◌, ◌/◌, ◌%�
 ghost use Rattle.mlt_base.specs.Mixing.{table};
 ghost use Rattle.mlt_kernel.specs.declared.pixel.Pixel.{Pixel};
 ghost use Rattle.mlt_slice.specs.Rows.{by_bytes};
-ghost use Rattle.mlt_vfilter.specs.Pixels.{lightness, pixelwise};
+ghost use Rattle.mlt_vfilter.specs.Pixels.{lightness_of, pixelwise};
 
 use mlt_kernel::Pixel;
 use mlt_kernel::pixel::{pixel_at, put_pixel};
@@ -65,8 +65,8 @@ pub fn filter_each<F: PixelFilter + Copy + Sync, B: Bands>(
 }
 
 /// How light a pixel is, 0 to 255.
-pub fn lightness(pixel: Pixel) -> u8
-    ensures { result ≡ lightness pixel }
+pub fn lightness_of(pixel: Pixel) -> u8
+    ensures { result ≡ lightness_of pixel }
 {
     ((77 * pixel.r as u32 + 150 * pixel.g as u32 + 29 * pixel.b as u32) / 256) as u8
 }

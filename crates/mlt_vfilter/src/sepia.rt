@@ -5,7 +5,7 @@ ghost use Rattle.mlt_base.specs.Mixing.{table};
 ghost use Rattle.mlt_tree.specs.Filters.{sepia};
 ghost use Rattle.mlt_vfilter.specs.Pixels.{brown};
 
-use crate::pixels::{PixelFilter, filter_each, lightness};
+use crate::pixels::{PixelFilter, filter_each, lightness_of};
 use mlt_kernel::Pixel;
 use mlt_slice::Bands;
 
@@ -17,7 +17,7 @@ impl PixelFilter for SepiaFilter {
     ghost makes = { λ _. brown };
 
     fn filter(self, pixel: Pixel) -> Pixel {
-        let light = lightness(pixel);
+        let light = lightness_of(pixel);
         Pixel {
             r: raised(light, 40),
             g: raised(light, 20),

@@ -5,7 +5,7 @@ ghost use Rattle.mlt_base.specs.Mixing.{table};
 ghost use Rattle.mlt_tree.specs.Filters.{threshold};
 ghost use Rattle.mlt_vfilter.specs.Pixels.{parted};
 
-use crate::pixels::{PixelFilter, filter_each, lightness};
+use crate::pixels::{PixelFilter, filter_each, lightness_of};
 use mlt_kernel::Pixel;
 use mlt_slice::Bands;
 
@@ -19,7 +19,7 @@ impl PixelFilter for ThresholdFilter {
     ghost makes = { λ filter. parted filter.midpoint };
 
     fn filter(self, pixel: Pixel) -> Pixel {
-        let value = if lightness(pixel) >= self.midpoint {
+        let value = if lightness_of(pixel) >= self.midpoint {
             255
         } else {
             0

@@ -1,9 +1,9 @@
 use Rattle.std.proofs.Common.{◌≡◌, ◌++◌, [], ◌∷◌, length, Ok, ap, sym, ◌∙◌, subst, refl}
 use Rattle.std.proofs.lemmas.Result.{err_from_is_err_and}
-use Rattle.mlt_base.specs.Try.{Fails}
+use Rattle.mlt_base.specs.Try.{TryFails}
 use Rattle.mlt_tree.specs.Sealing.{show_of_tree, all_units}
 use Rattle.mlt_tree.specs.Sources.{Fits}
-use Rattle.mlt_tree.specs.Units.{tractor_of, level_frames, drafts_of, level_misplaced}
+use Rattle.mlt_tree.specs.Units.{tractor_of, level_frames}
 use Rattle.mlt_tree.proofs.FitsTree.{fits_tree}
 use Rattle.mlt_graph.specs.Sealed.{tree}
 use Rattle.melt_build.specs.Built.{checked}
@@ -12,8 +12,8 @@ use Rattle.melt_build.proofs.Levels.{level_below, maps_within}
 use Rattle.melt_build.proofs.Sealed.{fits_more, seal-tree}
 use Rattle.melt_build.proofs.seal.seal.Goals as goal
 
-pub sealed-requires : goal.sealed-requires
-sealed-requires c = level_below (length c.args.state.made.graph) c.args.state.made.table c.args.state.level c.requires.level
+pub sealed-requires-clause-below : goal.sealed-requires-clause-below
+sealed-requires-clause-below c = level_below (length c.args.state.made.graph) c.args.state.made.table c.args.state.level c.requires.level
 
 pub returns-clause-fits : goal.returns-clause-fits
 returns-clause-fits c =
@@ -24,6 +24,6 @@ returns-clause-fits c =
 pub returns-in_err-show_of_tree-clause-show : goal.returns-in_err-show_of_tree-clause-show
 returns-in_err-show_of_tree-clause-show c =
     let s = state_view c.args.state in
-    let whole = subst (λ places. checked c.args.count places (length (drafts_of s.level)) (level_misplaced s.level) (all_units s) (length s.made.units) ≡ Ok tt) c.as_slice.ensures.value c.in_ok-sealed.ensures.value in
+    let whole = subst (λ places. checked c.args.count places s.level (all_units s) (length s.made.units) ≡ Ok tt) c.as_slice.ensures.value c.in_ok-sealed.ensures.value in
     let p = err_from_is_err_and c.from_residual-in_err-show_of_tree.result c.from_residual-in_err-show_of_tree.ensures.1 in
-    rw (p.1, p.2) (subst (Fails c.in_err-show_of_tree.field-0.0) (sym (seal-tree c.args.count s whole ∙ ap (show_of_tree c.args.count s) (sym (ap tree c.in_ok-sealed.ensures.sealed)))) (c.in_err-show_of_tree.ensures.show s refl refl))
+    rw (p.1, p.2) (subst (TryFails c.in_err-show_of_tree.field-0.0) (sym (seal-tree c.args.count s whole ∙ ap (show_of_tree c.args.count s) (sym (ap tree c.in_ok-sealed.ensures.sealed)))) (c.in_err-show_of_tree.ensures.show s refl refl))

@@ -1,14 +1,13 @@
 use Rattle.std.proofs.Common.{◌≡◌, ◌≤◌, ◌*◌, ◌^◌, IfSome}
 use Rattle.mlt_base.specs.ProfileView.{measures_of}
 use Rattle.mlt_base.specs.declared.port.Port.TheVariants.{Video}
-use Rattle.mlt_eval.specs.Fitted.{AreFitted}
 use Rattle.mlt_host.specs.Count.{next}
 use Rattle.mlt_host.specs.Host.{OnlyPort}
 use Rattle.mlt_pool.specs.Class.{class_of}
 use Rattle.mlt_pool.specs.Counts.{home_of}
 use Rattle.mlt_graph.specs.Piece.{piece_of}
 use Rattle.mlt_graph.specs.Show.{meant}
-use Rattle.mlt_tree.specs.Show.{loads_to}
+use Rattle.mlt_tree.specs.Show.{played, loads_to, AreFitted}
 use Rattle.melt_run.specs.Lending.{LendsAlike}
 use Rattle.melt_run.specs.Play.{fronted}
 use Rattle.melt_run.specs.Ready.{IsRackOf, AreStacksOf}
@@ -23,8 +22,8 @@ invariant-loop-done g l = record {
   rack : IsRackOf l.show l.rack;
   fitted : AreFitted (measures_of l.show.profile) l.table l.fitted.fits;
   stacks : AreStacksOf l.show l.stacks;
-  so_far : IfSome ((g.H.Host.state l.host).port Video) (λ port. port ≡ fronted (meant l.show l.table) Video l.show.output.video l.done);
-  exact : l.loads ≡ loads_to (meant l.show l.table) l.done;
+  so_far : IfSome ((g.H.Host.state l.host).port Video) (λ port. port ≡ fronted (played (meant l.show l.table)) Video l.show.output.video l.done);
+  exact : l.loads ≡ loads_to (played (meant l.show l.table)) l.done;
   few : l.loads ≤ l.done * 2 ^ 32;
   counted : (g.H.Host.state l.host).faults Video ≡ (g.H.Host.state l.fn.host).faults Video;
   created : (g.H.Host.state l.host).creates Video ≡ next ((g.H.Host.state l.fn.host).creates Video);

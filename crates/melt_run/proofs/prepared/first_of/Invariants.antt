@@ -1,6 +1,6 @@
 use Rattle.std.proofs.Common.{◌≡◌, drop}
 use Rattle.std.specs.Prelude.{find}
-use Rattle.mlt_tree.specs.Reading.{is_of}
+use Rattle.mlt_tree.specs.Table.{is_of}
 use Rattle.melt_run.proofs.prepared.first_of.Given as goal
 
 -- none so far

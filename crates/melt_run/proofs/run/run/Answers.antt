@@ -1,8 +1,9 @@
 use Rattle.std.proofs.Common.{sym, subst}
 use Rattle.std.proofs.lemmas.Option.{IfSome_then}
 use Rattle.mlt_tree.specs.Reading.{reading_on}
+use Rattle.mlt_tree.specs.Show.{played}
 use Rattle.mlt_graph.specs.Show.{meant}
-use Rattle.melt_run.specs.Ends.{Ends, EndsShow}
+use Rattle.melt_run.specs.Ends.{Ends, EndsRun}
 use Rattle.melt_run.specs.Outcome.{CountsPorts}
 use Rattle.melt_run.specs.Prepared.{loads_on}
 use Rattle.melt_run.specs.Show.{texts}
@@ -17,7 +18,7 @@ returns-in-Play-clause-ends g c =
     let only = c.prepare.ensures.rest in
     let show = meant c.in-Play.show c.in-Play.table in let status = c.played.result in
     IfSome_then (reading_on (texts c.args.words.now) a.files) c.in-Play.ensures.means (λ reading means.
-    ends_from a b.asked b.load_faults z reading status (subst (λ r. Ends r status (record a { asked = b.asked; load_faults = b.load_faults }) z) (sym means) (subst (λ s. EndsShow show status s z) (loaded a b only) c.played.ensures.ends)))
+    ends_from a b.asked b.load_faults z reading status (subst (λ r. Ends r status (record a { asked = b.asked; load_faults = b.load_faults }) z) (sym means) (subst (λ s. EndsRun (played show) status s z) (loaded a b only) c.played.ensures.ends)))
 
 pub returns-in-Play-clause-counts : goal.returns-in-Play-clause-counts
 returns-in-Play-clause-counts g c =

@@ -1,31 +1,30 @@
-use Rattle.std.specs.Io.KnownBytes.{Keeps}
-use Rattle.std.proofs.KnownBytes.{Keeps-refl}
-use Rattle.mlt_host.proofs.Streams.{writes_more, front_written, keeps_none, on_err}
+use Rattle.std.proofs.Common.{◌≡◌, ◌+◌, ◌≤◌, length, arith, rules}
+use Rattle.mlt_host.proofs.Streams.{writes_more, fails, flush_ends}
 use Rattle.mlt_host.proofs.disk_file.write_whole.Goals as goal
 
-pub loop-preserved : goal.loop-preserved
-loop-preserved g c =
-    let (done, split, wrote) = c.loop.invariant in
-    writes_more _ _ _ c.args.bytes.now done c.loop.rest.now c.in-Ok.count split wrote c.in-Ok.ensures.bytes
+pub loop-rest-preserved : goal.loop-rest-preserved
+loop-rest-preserved g c =
+    let (done, split, wrote) = c.loop-rest.invariant.written in
+    record {
+      written = writes_more _ _ _ c.args.bytes.now done c.loop-rest.rest.now c.in-Ok.count split wrote c.in-Ok.ensures.bytes;
+      failures = search rules;
+      flushes = search rules;
+    }
 
-pub returns-then-is_empty-clause-front : goal.returns-then-is_empty-clause-front
-returns-then-is_empty-clause-front g c =
-    let (done, split, wrote) = c.loop.invariant in
-    on_err c.map_err.result _ (front_written _ _ _ c.args.bytes.now done c.loop.rest.now split wrote c.flush.ensures.bytes)
+pub returns-in-Err : goal.returns-in-Err
+returns-in-Err g c =
+    let (done, split, wrote) = c.loop-rest.invariant.written in
+    let start = g.W.Sink.sink c.args.to.now in
+    let before = g.W.Sink.sink c.loop-rest.to in
+    let after = g.W.Sink.sink c.write.new.self in
+    let flushes : after.flushes ≤ before.flushes + 1 = omega (arith, c.in-Err.ensures.flushes) in
+    fails c.args.bytes.now done c.loop-rest.rest.now start before after split wrote c.loop-rest.invariant.failures c.loop-rest.invariant.flushes c.in-Err.ensures.bytes c.in-Err.ensures.count flushes
 
-pub returns-in-Ok-eq0-clause-front : goal.returns-in-Ok-eq0-clause-front
-returns-in-Ok-eq0-clause-front g c =
-    let (done, split, wrote) = c.loop.invariant in
-    let none = c.in-Ok-eq0 in
-    let stays : Keeps (g.W.Write.contents c.loop.to) (g.W.Write.contents c.write_some.new.to) = keeps_none _ _ c.loop.rest.now none.field-0 none.field-0-test none.ensures.bytes in
-    front_written _ _ _ c.args.bytes.now done c.loop.rest.now split wrote stays
-
-pub returns-in-Err-clause-front : goal.returns-in-Err-clause-front
-returns-in-Err-clause-front g c =
-    let (done, split, wrote) = c.loop.invariant in
-    front_written _ _ _ c.args.bytes.now done c.loop.rest.now split wrote c.in-Err.ensures.bytes
-
-pub returns-clause-front : goal.returns-clause-front
-returns-clause-front g c =
-    let (done, split, wrote) = c.loop.invariant in
-    front_written _ _ _ c.args.bytes.now done c.loop.rest.now split wrote (Keeps-refl (g.W.Write.contents c.loop.to))
+pub returns : goal.returns
+returns g c =
+    let (done, split, wrote) = c.loop-rest.invariant.written in
+    let start = g.W.Sink.sink c.args.to.now in
+    let before = g.W.Sink.sink c.loop-rest.to in
+    let after = g.W.Sink.sink c.flush.new.self in
+    let none : length c.loop-rest.rest.now ≡ 0 = search rules in
+    flush_ends c.flush.result c.args.bytes.now done c.loop-rest.rest.now start before after split none wrote c.loop-rest.invariant.failures c.loop-rest.invariant.flushes c.flush.ensures.bytes c.flush.ensures.count c.flush.ensures.flushes c.flush.ensures.flushed

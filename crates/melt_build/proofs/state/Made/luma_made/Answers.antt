@@ -3,8 +3,8 @@ use Rattle.std.proofs.lemmas.Result.{err_from_is_err_and}
 use Rattle.mlt_tree.specs.Merging.{map_made}
 use Rattle.mlt_tree.specs.Props.{file_name}
 use Rattle.mlt_tree.specs.declared.services.TheConstants as row
-use Rattle.melt_build.specs.Given.{props_in}
-use Rattle.melt_build.specs.Loads.{names_of, Asks, Tells, Fails}
+use Rattle.melt_build.specs.Properties.{props_in}
+use Rattle.melt_build.specs.Loads.{names_of, Asks, TellsFiles, StepFails}
 use Rattle.melt_build.specs.Plant.{merging_view}
 use Rattle.melt_build.specs.State.{made_view}
 use Rattle.melt_build.proofs.Merged.{softness_fails, tells_map, map_fails, luma_goes}
@@ -27,7 +27,7 @@ returns-in_err-map-clause-goes g c =
     rw (p.1, p.2) (λ files s group made place tells.
     let asks = sym c.share.ensures.value ∙ c.in_ok-softness.was in
     let read = ap (λ m. map_made files m group.place (file_name row.RESOURCE ps)) made ∙ ap (λ k. map_made files old k (file_name row.RESOURCE ps)) place ∙ ap (map_made files old c.args.place) (sym c.file_name.ensures) in
-    map_fails files s group ps softness asks c.in_err-map.field-0.0 a b (subst (λ step. Fails c.in_err-map.field-0.0 step a b) (sym read) (c.in_err-map.ensures.goes files (subst (λ step. Tells files step a) read (tells_map files s group ps softness asks a tells)))))
+    map_fails files s group ps softness asks c.in_err-map.field-0.0 a b (subst (λ step. StepFails c.in_err-map.field-0.0 step a b) (sym read) (c.in_err-map.ensures.goes files (subst (λ step. TellsFiles files step a) read (tells_map files s group ps softness asks a tells)))))
 
 pub returns-clause-goes : goal.returns-clause-goes
 returns-clause-goes g c = λ files s group made place tells.
@@ -37,4 +37,4 @@ returns-clause-goes g c = λ files s group made place tells.
     let asks = sym c.share.ensures.value ∙ c.in_ok-softness.was in
     let read = ap (λ m. map_made files m group.place (file_name row.RESOURCE ps)) made ∙ ap (λ k. map_made files old k (file_name row.RESOURCE ps)) place ∙ ap (map_made files old c.args.place) (sym c.file_name.ensures) in
     luma_goes files s group ps softness asks (merging_view c.map_made.new.self) _ (new, map) a b
-    (subst (λ step. (step.end ≡ Ok (new, map)) × Asks (names_of step.loads) a b) (sym read) (c.in_ok-map.ensures.goes files (subst (λ step. Tells files step a) read (tells_map files s group ps softness asks a tells)))) refl
+    (subst (λ step. (step.end ≡ Ok (new, map)) × Asks (names_of step.loads) a b) (sym read) (c.in_ok-map.ensures.goes files (subst (λ step. TellsFiles files step a) read (tells_map files s group ps softness asks a tells)))) refl

@@ -1,7 +1,7 @@
 use Rattle.std.proofs.Common.{rules, ◌≡◌, length, ap, sym, ◌∙◌, subst}
 use Rattle.std.proofs.lemmas.Result.{err_from_is_err_and}
 use Rattle.mlt_base.specs.Ppm.{ppm}
-use Rattle.mlt_base.specs.Try.{Fails}
+use Rattle.mlt_base.specs.Try.{TryFails}
 use Rattle.mlt_tree.specs.Loaded.{picture_in, with_loaded}
 use Rattle.melt_build.specs.State.{made_view}
 use Rattle.melt_build.proofs.Filed.{tells_bytes, bytes_fail, picture_fails, goes_loaded_picture}
@@ -24,7 +24,7 @@ returns-in_err-picture-clause-goes g c =
     rw (p.1, p.2) (λ files tells.
     picture_fails files made place name limit c.load_limit.ensures.value c.in_ok-bytes.bytes.items a b
     (c.in_ok-bytes.ensures.goes files (tells_bytes files made place name limit c.load_limit.ensures.value a tells))
-    c.in_err-picture.field-0.0 (subst (λ bytes. Fails c.in_err-picture.field-0.0 (picture_in place (ppm bytes))) c.as_slice.ensures.value c.in_err-picture.ensures))
+    c.in_err-picture.field-0.0 (subst (λ bytes. TryFails c.in_err-picture.field-0.0 (picture_in place (ppm bytes))) c.as_slice.ensures.value c.in_err-picture.ensures))
 
 pub returns-clause-goes : goal.returns-clause-goes
 returns-clause-goes g c = λ files tells.

@@ -1,9 +1,9 @@
-use Rattle.std.proofs.Common.{Ok, sym, ap, ◌∙◌}
+use Rattle.std.proofs.Common.{length, Ok, sym, ap, ◌∙◌}
 use Rattle.std.proofs.lemmas.Result.{err_from_is_err_and}
 use Rattle.mlt_tree.specs.declared.tree.Hide.{Hide}
 use Rattle.mlt_tree.specs.Units.{new_track}
 use Rattle.melt_build.specs.State.{state_view}
-use Rattle.melt_build.proofs.Tracks.{begun, track_fails, track_done, track_known}
+use Rattle.melt_build.proofs.Tracks.{begun, track_fails, track_done, track_known, track_plants}
 use Rattle.melt_build.proofs.state.State.begin_track.Goals as goal
 
 pub returns-in_err-edited-clause-value : goal.returns-in_err-edited-clause-value
@@ -26,4 +26,5 @@ returns-clause-composed c =
       made = c.requires.made;
       level = track_known _ s.made.table s.level new hide c.requires.level done;
       mix = c.mix_kept-mix.ensures.mix;
+      placed = c.requires.placed ∙ ap length (sym (track_plants s.level new hide done));
     }

@@ -5,7 +5,7 @@ use Rattle.mlt_tree.specs.Services.{Called, called, filter_named}
 use Rattle.mlt_tree.specs.Units.{with_plant}
 use Rattle.melt_build.specs.Attach.{asked_view}
 use Rattle.melt_build.specs.State.{IsKnownLevel, state_view}
-use Rattle.melt_build.proofs.Levels.{level_planted}
+use Rattle.melt_build.proofs.Levels.{level_planted, placed_more}
 use Rattle.melt_build.proofs.Planted.{planted_is, filter_done}
 use Rattle.melt_build.proofs.state.State.filter_planted.Goals as goal
 
@@ -17,6 +17,7 @@ returns-clause-composed c =
       made = c.requires.composed.made;
       level = subst (IsKnownLevel count s.made.table) (sym c.in_ok-plant_filter.ensures.ok) (level_planted count s.made.table s.level plant c.requires.composed.level tt);
       mix = c.requires.composed.mix;
+      placed = placed_more s.level c.plant_filter.new.self s.plant_places.items c.push.new.self.items c.args.group.now.place plant c.requires.composed.placed c.in_ok-plant_filter.ensures.ok (search rules);
     }
 
 pub returns-clause-value : goal.returns-clause-value

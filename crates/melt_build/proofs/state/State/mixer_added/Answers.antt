@@ -1,6 +1,6 @@
 use Rattle.std.proofs.Common.{sym, ◌∙◌, subst}
 use Rattle.std.proofs.lemmas.Result.{err_from_is_err_and}
-use Rattle.melt_build.specs.Loads.{Tells, Goes}
+use Rattle.melt_build.specs.Loads.{TellsFiles, Goes}
 use Rattle.melt_build.specs.State.{state_view}
 use Rattle.melt_build.proofs.Merged.{mixer_unknown, mixer_known}
 use Rattle.melt_build.proofs.state.State.mixer_added.Goals as goal
@@ -17,4 +17,4 @@ returns-clause-goes g c = λ files tells.
     let a = g.H.Host.state c.args.host.now in let b = g.H.Host.state c.merge_mixed.new.host in
     let s = state_view c.args.self.now in let group = c.args.group.now in
     let is = mixer_known files s group c.in_ok-service.service (sym c.merge_of.ensures ∙ c.in_ok-service.was) in
-    subst (λ step. Goes (λ done. state_view c.merge_mixed.new.self) c.merge_mixed.result step a b) (sym is) (c.merge_mixed.ensures.goes files (subst (λ step. Tells files step a) is tells))
+    subst (λ step. Goes (λ done. state_view c.merge_mixed.new.self) c.merge_mixed.result step a b) (sym is) (c.merge_mixed.ensures.goes files (subst (λ step. TellsFiles files step a) is tells))

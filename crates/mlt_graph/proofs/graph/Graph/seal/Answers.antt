@@ -1,5 +1,5 @@
 use Rattle.std.proofs.Common.{◌≡◌, ◌<◌, Result, Err, length, ap, ◌∙◌, subst, arith}
-use Rattle.mlt_graph.specs.Seal.{seal}
+use Rattle.mlt_graph.specs.Seal.{sealed_within}
 use Rattle.mlt_graph.specs.Sealed.{Shown}
 use Rattle.mlt_graph.specs.Weights.{weight_of}
 use Rattle.mlt_tree.specs.Units.{tree_of}
@@ -14,7 +14,7 @@ returns-then-size-gt-MOST_DEPTH c =
     let top = c.args.top.0 in
     let size = c.index-size.result.now in
     let there : top < length us = omega (arith, ap length c.self.view_is, c.requires) in
-    subst (λ us. ◌≡◌ {A = Result Shown GraphFault} (Err (TooDeep size.depth)) (seal us top)) c.self.view_is
+    subst (λ us. ◌≡◌ {A = Result Shown GraphFault} (Err (TooDeep size.depth)) (sealed_within us top)) c.self.view_is
     (too_deep us c.self.inside.sizes.items top size c.self.invariant.sized there c.index-size.ensures c.if-size-gt-MOST_DEPTH.true)
 
 pub new-requires-clause-kept : goal.new-requires-clause-kept

@@ -1,7 +1,7 @@
 use Rattle.std.proofs.Common.{◌≡◌, ◌+◌, ◌*◌, ◌/◌, ◌%◌, length, get_or, take, Some, ap, ◌∙◌, arith}
 use Rattle.std.proofs.lemmas.List.FromFn.{fill_by_all}
 use Rattle.mlt_base.specs.Fitting.{next, down}
-use Rattle.mlt_image.specs.Kept.{across_at, row_of, stretched_row}
+use Rattle.mlt_image.specs.Kept.{across_at, kept_row, stretched_row}
 use Rattle.mlt_image.specs.declared.rows.Row.{Row}
 use Rattle.mlt_image.proofs.Mixes.{down_none}
 use Rattle.mlt_image.proofs.RowsKept.{tabled, row_at, row_most}
@@ -42,7 +42,7 @@ pub returns-else-share-eq0-clause-row : goal.returns-else-share-eq0-clause-row
 returns-else-share-eq0-clause-row c =
     let pixels = c.args.pixels.now in let width = c.args.width in let places = c.args.places.now in let place = c.args.place in let n = length c.args.out.now in
     let y = place / 65536 in let share = place % 65536 in let rows = c.keep-else-share-eq0.new.self in let are = c.keep-else-share-eq0.ensures.kept in
-    let named : (row_of rows y).y ≡ Some y = ap (λ (r : Row). r.y) (c.keep-else-share-eq0.ensures.other y (λ e. omega arith)) ∙ c.keep.ensures.named in
+    let named : (kept_row rows y).y ≡ Some y = ap (λ (r : Row). r.y) (c.keep-else-share-eq0.ensures.other y (λ e. omega arith)) ∙ c.keep.ensures.named in
     let below : y + 1 ≡ next c.args.height place = omega arith in
     let bottom = get_or (take (length places * 4) c.row-else-share-eq0-2.result.now.values) in
     fill_by_all (stretched_row pixels width c.args.height places place) c.down-else-share-eq0.new.out n 0 (omega arith)

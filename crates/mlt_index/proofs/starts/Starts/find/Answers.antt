@@ -35,3 +35,19 @@ returns-clause-few c =
     let count = length_is ends ns (kept ends ns c.self.invariant c.self.view_is) in
     let same : length c.deref.result.now ≡ length ns = omega arith in
     omega (arith, ap binary_digits same, c.index_of-index.ensures.few)
+
+pub returns-then-index-len-clause-least : goal.returns-then-index-len-clause-least
+returns-then-index-len-clause-least c =
+    let ns = c.args.self.now in
+    let ends = c.self.inside.ends.items in
+    let count = length_is ends ns (kept ends ns c.self.invariant c.self.view_is) in
+    let same : length c.deref.result.now ≡ length ns = omega arith in
+    omega (arith, ap binary_digits same, c.index_of-index.ensures.least)
+
+pub returns-clause-least : goal.returns-clause-least
+returns-clause-least c =
+    let ns = c.args.self.now in
+    let ends = c.self.inside.ends.items in
+    let count = length_is ends ns (kept ends ns c.self.invariant c.self.view_is) in
+    let same : length c.deref.result.now ≡ length ns = omega arith in
+    omega (arith, ap binary_digits same, c.index_of-index.ensures.least)

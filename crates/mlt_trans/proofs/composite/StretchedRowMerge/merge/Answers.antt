@@ -4,7 +4,7 @@ use Rattle.mlt_base.specs.Fitting.{stretched_at}
 use Rattle.mlt_base.specs.Still.{Picture}
 use Rattle.mlt_image.specs.Kept.{stretched_row}
 use Rattle.mlt_image.proofs.RowsKept.{tabled}
-use Rattle.mlt_tree.specs.Merges.{within}
+use Rattle.mlt_tree.specs.Merges.{offset_in}
 use Rattle.mlt_trans.specs.Placed.{laid_where, laid_row}
 use Rattle.mlt_trans.proofs.Laid.{near_is, length-places, places_inside, top_stretched, row_laid, not_laid}
 use Rattle.mlt_trans.proofs.Rowwise.{stays}
@@ -37,20 +37,20 @@ returns-in-Some-clause-row c =
     let top = c.stretch.new.out in let room = take (count * 4) merge.top in
     let full : length room ≡ count * 4 = omega (arith, layer.visible.own, layer.placed.few_columns, length-take (count * 4) merge.top) in
     let long : length top ≡ count * 4 = omega (arith, full) in
-    let value : Some v ≡ within geometry.y geometry.height c.args.number = rw (near_is geometry.y layer.placed.y_near) at c.in-Some.ensures.value in
+    let value : Some v ≡ offset_in geometry.y geometry.height c.args.number = rw (near_is geometry.y layer.placed.y_near) at c.in-Some.ensures.value in
     fill_by_all (laid_row geometry above c.args.number old) c.lay.new.row (length old) 0 (omega arith)
     (λ i lt. row_laid geometry.opacity z geometry.x geometry.width layer.width from skip count v old c.lay.new.row top layer.visible long
     (λ j inside. tabled (stretched_row layer.b.now layer.width layer.height places c.along-place.result) (length room) j top c.stretch.ensures.row (omega (arith, full))
     ∙ ap (λ p. stretched_row layer.b.now layer.width layer.height places p j) c.along-place.ensures.value
     ∙ top_stretched above geometry.width geometry.height v skip count j places merge.along inside)
     c.lay.ensures.done c.lay.ensures.before c.lay.ensures.after i (omega arith)
-    ∙ ap (laid_where geometry.opacity z old i (within geometry.x geometry.width (i / 4))) value)
+    ∙ ap (laid_where geometry.opacity z old i (offset_in geometry.x geometry.width (i / 4))) value)
 
 pub returns-in_default-clause-row : goal.returns-in_default-clause-row
 returns-in_default-clause-row c =
     let layer = c.args.self.now.layer in let geometry = layer.geometry in let old = c.args.row.now in
     let above : Picture = record { width = layer.width; height = layer.height; pixels = layer.b.now } in
     let z = stretched_at above geometry.width geometry.height in
-    let value : None ≡ within geometry.y geometry.height c.args.number = rw (near_is geometry.y layer.placed.y_near) at c.in_default.ensures.value in
+    let value : None ≡ offset_in geometry.y geometry.height c.args.number = rw (near_is geometry.y layer.placed.y_near) at c.in_default.ensures.value in
     stays (laid_row geometry above c.args.number old) old
-    (λ i. not_laid geometry.opacity z old i (within geometry.x geometry.width (i / 4)) ∙ ap (laid_where geometry.opacity z old i (within geometry.x geometry.width (i / 4))) value)
+    (λ i. not_laid geometry.opacity z old i (offset_in geometry.x geometry.width (i / 4)) ∙ ap (laid_where geometry.opacity z old i (offset_in geometry.x geometry.width (i / 4))) value)
