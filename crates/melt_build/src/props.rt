@@ -6,7 +6,7 @@ ghost use Rattle.mlt_base.specs.Name.{is_spelled};
 ghost use Rattle.mlt_base.specs.ProfileView.{measures_of};
 ghost use Rattle.mlt_base.specs.Try.{TryGives};
 ghost use Rattle.mlt_tree.specs.Props as meaning;
-ghost use Rattle.mlt_tree.specs.Props.{later as later_of, last_named, counted as counted_of, distant as distant_of, timed as timed_of, in_range as within_of, distance_within, chosen as chosen_of, keyed as keyed_of, channel_of, channels_of, lettered as lettered_of, shared as shared_of, placed as placed_of};
+ghost use Rattle.mlt_tree.specs.Props.{later as later_of, last_named, counted as counted_of, distant as distant_of, timed as timed_of, in_range as in_range_of, distance_within, chosen as chosen_of, keyed as keyed_of, channel_of, channels_of, lettered as lettered_of, shared as shared_of, placed as placed_of};
 ghost use Rattle.mlt_base.specs.GeometryView.{IsPlacement};
 ghost use Rattle.melt_build.specs.Properties.{front_in, behind_front, props_in};
 ghost use Rattle.melt_build.specs.Object.{text_in};
@@ -51,8 +51,8 @@ fn last_named<'a>(inherited: &'a [Prop], own: &'a [Prop], name: &str) -> Option<
 }
 
 /// A whole number from `low` to `high`.
-fn within(low: u32, high: u32, value: i64) -> Result<u32, Cause>
-    ensures value { (place : ℕ) → at_place place result ≡ within_of low high place value }
+fn in_range(low: u32, high: u32, value: i64) -> Result<u32, Cause>
+    ensures value { (place : ℕ) → at_place place result ≡ in_range_of low high place value }
     ensures range { IfOk result (λ n. (low ≤ n) × (n ≤ high)) }
 {
     if i64::from(low) <= value && value <= i64::from(high) {
@@ -72,7 +72,7 @@ pub(crate) fn counted(low: u32, high: u32, text: &str) -> Result<u32, Cause>
     ensures value { (place : ℕ) → at_place place result ≡ counted_of low high place text.now }
     ensures range { IfOk result (λ n. (low ≤ n) × (n ≤ high)) }
 {
-    within(low, high, read_whole(text)?)
+    in_range(low, high, read_whole(text)?)
 }
 
 /// How far a whole number is from 0, at most `high`.

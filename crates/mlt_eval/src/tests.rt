@@ -1,6 +1,6 @@
 //! Fitted pictures, a rack and rendered frames as a caller sees them.
 
-ghost use Rattle.std.specs.Prelude.{◌≡◌, None, length, IfOk};
+ghost use Rattle.std.specs.Prelude.{◌≡◌, ◌<◌, None, length, IfOk};
 ghost use Rattle.mlt_base.specs.ProfileView.{measures_of};
 ghost use Rattle.mlt_tree.specs.Show.{AreFitted};
 ghost use Rattle.mlt_frame.specs.Started.{CanRun};

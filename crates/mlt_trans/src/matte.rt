@@ -1,4 +1,4 @@
-//! Matte: how light one picture is becomes the alpha of the other.
+//! Matte: the lightness of one picture becomes the alpha of the other.
 
 ghost use Rattle.std.specs.Prelude.{◌≡◌, ◌+◌, ◌*◌, ◌/◌, ◌%◌, ◌≤◌, length};
 ghost use Rattle.mlt_base.specs.Mixing.{table, lightness};
@@ -44,7 +44,7 @@ fn matte_row(row: &mut [u8], other: &[u8])
     }
 }
 
-/// How light a pixel is, 0 to 255.
+/// The lightness of a pixel, 0 to 255.
 #[inline(always)]
 pub fn lightness(pixel: Pixel) -> u8
     ensures { result ≡ lightness pixel.r pixel.g pixel.b }
@@ -52,7 +52,7 @@ pub fn lightness(pixel: Pixel) -> u8
     ((77 * pixel.r as u32 + 150 * pixel.g as u32 + 29 * pixel.b as u32) / 256) as u8
 }
 
-/// Makes how light `b` is the alpha of `a`; colours stay. Both have `width` pixels a row, 1 to 4096, and the
+/// Makes the lightness of `b` the alpha of `a`; colours stay. Both have `width` pixels a row, 1 to 4096, and the
 /// same number of whole rows, at most 4096.
 pub fn matte<B: Bands>(a: &mut [u8], b: &[u8], width: u32, bands: &B)
     requires width { (1 ≤ width) × (width ≤ 4096) }

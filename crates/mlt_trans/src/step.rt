@@ -15,7 +15,7 @@ use crate::wipe::{wipe, wipe_from};
 use mlt_slice::Bands;
 use mlt_tree::MergeStep;
 
-/// Merges a picture `b` into a picture `a`: from `a` to `b`, or `b` laid over `a`, or how light `b` is as the alpha
+/// Merges a picture `b` into a picture `a`: from `a` to `b`, or `b` laid over `a`, or the lightness of `b` as the alpha
 /// of `a`; a merge of sound leaves `a`. Both have `width` pixels a row, 1 to 4096, four bytes a pixel, and the same
 /// number of whole rows, at most 4096. `map` is the picture of the merge's map, of the same size, where it takes
 /// one, else none. `bands` goes through the rows. No memory is taken, and nothing is refused.

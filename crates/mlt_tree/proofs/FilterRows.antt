@@ -16,7 +16,7 @@ one step p = picture_filter step 1 (picture (p ∷ []))
 red_inverted : one Invert (255, 0, 0, 7) ≡ picture ((0, 255, 255, 7) ∷ [])
 red_inverted = refl
 
--- the brightness of cyan is 178
+-- the lightness of cyan is 178
 cyan_grey : one Greyscale (0, 255, 255, 255) ≡ picture ((178, 178, 178, 255) ∷ [])
 cyan_grey = refl
 

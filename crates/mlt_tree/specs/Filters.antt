@@ -8,7 +8,7 @@ use Rattle.mlt_tree.specs.declared.filter.FilterStep.TheVariants.{Brightness, Gr
 
 -- ---- filters of one pixel
 
--- the brightness of byte k's pixel
+-- the lightness of byte k's pixel
 abbrev pub lightness_at : List ℕ → ℕ → ℕ
 lightness_at xs k = lightness (slice_index xs (k / 4 * 4)) (slice_index xs (k / 4 * 4 + 1)) (slice_index xs (k / 4 * 4 + 2))
 

@@ -18,7 +18,7 @@ pub enum FilterSpec {
     Brightness {
         level: Animation,
     },
-    /// Leaves only how light a pixel is.
+    /// Leaves only the lightness of a pixel.
     Greyscale,
     /// Turns each of red, green and blue around.
     Invert,

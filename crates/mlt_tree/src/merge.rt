@@ -23,7 +23,7 @@ pub enum MergeSpec {
     Composite {
         geometry: Geometry,
     },
-    /// The alpha of `a` becomes how light `b` is.
+    /// The alpha of `a` becomes the lightness of `b`.
     Matte,
     /// From `a` to `b`, sample by sample.
     Mix,

@@ -1,4 +1,4 @@
-//! Greyscale: how light a pixel is, and nothing of its colour.
+//! Greyscale: the lightness of a pixel, and nothing of its colour.
 
 ghost use Rattle.std.specs.Prelude.{◌≡◌, ◌*◌, ◌/◌, ◌%◌, ◌≤◌, length};
 ghost use Rattle.mlt_base.specs.Mixing.{table};

@@ -64,7 +64,7 @@ pub fn filter_each<F: PixelFilter + Copy + Sync, B: Bands>(
     bands.run(&EachPixel { filter, width }, picture, width as usize * 4);
 }
 
-/// How light a pixel is, 0 to 255.
+/// The lightness of a pixel, 0 to 255.
 pub fn lightness_of(pixel: Pixel) -> u8
     ensures { result ≡ lightness_of pixel }
 {
