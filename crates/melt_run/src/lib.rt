@@ -25,5 +25,3 @@ pub use text::{TextJob, melt_text};
 
 #[cfg(test)]
 mod tests;
-#[cfg(test)]
-mod worked_tests;

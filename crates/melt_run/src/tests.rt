@@ -10,6 +10,7 @@ ghost use Rattle.melt_run.specs.Show.{texts};
 ghost use Rattle.melt_run.specs.Status.{IfDone, IfRefused};
 
 use super::*;
+use crate::line::fault_line;
 use mlt_base::{Port, PpmFault};
 use mlt_host::disk_in_memory::MemDisk;
 use mlt_host::{Counted, DiskHost, MemHost};
@@ -26,11 +27,11 @@ const RED_TWICE: [&str; 6] = [
     "out=1",
 ];
 
-pub(crate) const fn tally(frames: u64) -> Tally {
+const fn tally(frames: u64) -> Tally {
     tally_with(frames, frames)
 }
 
-pub(crate) const fn tally_with(frames: u64, loads: u64) -> Tally {
+const fn tally_with(frames: u64, loads: u64) -> Tally {
     Tally {
         frames,
         loads,
@@ -40,7 +41,7 @@ pub(crate) const fn tally_with(frames: u64, loads: u64) -> Tally {
     }
 }
 
-pub(crate) const fn refusal(word: u32, cause: Cause) -> Status {
+const fn refusal(word: u32, cause: Cause) -> Status {
     Status::Refused(Refusal {
         word,
         inner: None,
@@ -48,7 +49,7 @@ pub(crate) const fn refusal(word: u32, cause: Cause) -> Status {
     })
 }
 
-pub(crate) fn split(alloc: Global, line: &str) -> Result<Vec<String>, AllocError> {
+fn split(alloc: Global, line: &str) -> Result<Vec<String>, AllocError> {
     let mut words = Vec::new(alloc);
     for text in line.split(' ') {
         words.push(String::from_str(alloc, text)?)?;
@@ -65,7 +66,7 @@ fn owned(alloc: Global, texts: &[&str]) -> Result<Vec<String>, AllocError> {
 }
 
 /// A host with pictures: of one pixel, of two, and one whose last byte is wanting.
-pub(crate) fn with_pictures(alloc: Global) -> Result<MemHost, AllocError> {
+fn with_pictures(alloc: Global) -> Result<MemHost, AllocError> {
     let mut host = MemHost::new(alloc);
     host.add_file("p.ppm", b"P6 1 1 255\n\x0a\x14\x1e")?;
     host.add_file("x", b"P6 1 1 255\n\x0a\x14\x1e")?;
@@ -188,6 +189,7 @@ fn answers_each_failing_call(rt: HostRuntime) -> Result<(), Fail> {
     let answer = melt(&(), alloc, nothing.as_slice(), &mut host, &Free);
     assert_eq!(rt; answer.code(), 1);
     assert_eq!(rt; host.bytes_of(Port::Text), b"melt".as_slice());
+    assert_eq!(rt; fault_line(&answer).as_slice(), b"melt: word 4: nothing to play\n".as_slice());
     let mut host = MemHost::new(alloc);
     host.fail_at(0, 4)?;
     let answer = melt_text(TextJob::Version, &mut host);

@@ -2,7 +2,7 @@
 use Rattle.std.proofs.Common.{◌≡◌, ℕ, ℤ, ◌+◌, ◌-◌, ◌*◌, ◌/◌, ◌%◌, ◌<◌, ◌≤◌, ◌⊎◌, inl, inr, List, length, get_or, take, drop, Option, None, Some, unsigned_abs, to_z, of_z, w32, refl, sym, ap, ◌∙◌, arith, length-take, length-drop}
 use Rattle.std.proofs.lemmas.Int.{to_z-of_z, fits_signed_from_abs}
 use Rattle.std.proofs.lemmas.Bool.{cases_lt}
-use Rattle.std.proofs.lemmas.Nat.{row_fits, mod-mul-add}
+use Rattle.std.proofs.lemmas.Nat.{row_fits}
 use Rattle.std.proofs.lemmas.List.{get_or-take, get_or-drop}
 use Rattle.std.proofs.lemmas.List.FromFn.{length-map-range_with_len, fill_by_all}
 use Rattle.mlt_base.specs.declared.geometry.Geometry.{Geometry}
@@ -12,12 +12,12 @@ use Rattle.mlt_base.specs.Still.{Picture}
 use Rattle.mlt_image.specs.Kept.{stretched_row}
 use Rattle.mlt_image.proofs.Frames.{stretched_same}
 use Rattle.mlt_image.proofs.RowsKept.{tabled}
-use Rattle.mlt_slice.specs.Rows.{row_of, IsWorked, by_bytes}
-use Rattle.mlt_slice.proofs.Bytes.{row_byte, bytes_are}
+use Rattle.mlt_slice.specs.Rows.{row_of}
+use Rattle.mlt_slice.proofs.Bytes.{row_byte}
 use Rattle.mlt_tree.specs.Filters.{column, row}
 use Rattle.mlt_tree.specs.Merges.{offset_in, composite}
-use Rattle.mlt_trans.specs.Placed.{IsVisible, places_of, laid_where, laid_row}
-use Rattle.mlt_trans.proofs.Rowwise.{place_of, alpha_row}
+use Rattle.mlt_trans.specs.Placed.{IsVisible, places_of, laid_where, laid_by_row, laid_row}
+use Rattle.mlt_trans.proofs.Rowwise.{stays, place_of, alpha_row}
 
 -- ---- what is laid over
 
@@ -74,9 +74,13 @@ pub near_is : (z : ℤ) → unsigned_abs z ≤ 40960 → to_z w32 (of_z w32 z) �
 near_is z near = to_z-of_z w32 z (fits_signed_from_abs w32 z (omega (arith, near)))
 
 -- a row that isn't one of the rectangle's stays
-pub not_laid : (opacity : ℕ) (z : ℕ → ℕ → ℕ → ℕ) (row : List ℕ) (i : ℕ) (u : Option ℕ) → get_or row i 0 ≡ laid_where opacity z row i u None
-not_laid opacity z row i None = refl
-not_laid opacity z row i (Some u) = refl
+not_laid_at : (opacity : ℕ) (z : ℕ → ℕ → ℕ → ℕ) (row : List ℕ) (i : ℕ) (u : Option ℕ) → get_or row i 0 ≡ laid_where opacity z row i u None
+not_laid_at opacity z row i None = refl
+not_laid_at opacity z row i (Some u) = refl
+
+pub not_laid : (geometry : Geometry) (above : Picture) (v : Option ℕ) (row : List ℕ) → None ≡ v → row ≡ table (length row) (laid_by_row geometry above v row)
+not_laid geometry above v row e =
+    rw (← e) (stays (laid_by_row geometry above None row) row (λ i. not_laid_at geometry.opacity (stretched_at above geometry.width geometry.height) row i (offset_in geometry.x geometry.width (i / 4))))
 
 -- byte j of what lies above, at its place in the row
 module _ (opacity : ℕ) (z : ℕ → ℕ → ℕ → ℕ) (start : ℤ) (size width from skip count v : ℕ) (old new top : List ℕ)
@@ -97,8 +101,8 @@ module _ (opacity : ℕ) (z : ℕ → ℕ → ℕ → ℕ) (start : ℤ) (size w
       ∙ ap (λ a. laid_channel (j % 4) (alpha_at old (from * 4 + j)) (strength a opacity) (get_or old (from * 4 + j) 0) (z (skip + j / 4) v (j % 4))) alpha
       ∙ ap (λ c. laid_channel c (alpha_at old (from * 4 + j)) (strength (z (skip + j / 4) v 3) opacity) (get_or old (from * 4 + j) 0) (z (skip + j / 4) v c)) (sym channel)
 
-  pub row_laid : (i : ℕ) → i < width * 4 → get_or new i 0 ≡ laid_where opacity z old i (offset_in start size (i / 4)) (Some v)
-  row_laid i lt = by (cases_lt i (from * 4)) (cases_lt i (from * 4 + count * 4)) where
+  byte_laid : (i : ℕ) → i < width * 4 → get_or new i 0 ≡ laid_where opacity z old i (offset_in start size (i / 4)) (Some v)
+  byte_laid i lt = by (cases_lt i (from * 4)) (cases_lt i (from * 4 + count * 4)) where
     by : (i < from * 4) ⊎ (from * 4 ≤ i) → (i < from * 4 + count * 4) ⊎ (from * 4 + count * 4 ≤ i) → get_or new i 0 ≡ laid_where opacity z old i (offset_in start size (i / 4)) (Some v)
     by (inl low) _ =
         let none : offset_in start size (i / 4) ≡ None = visible.before (i / 4) (omega arith) in
@@ -114,6 +118,9 @@ module _ (opacity : ℕ) (z : ℕ → ℕ → ℕ → ℕ) (start : ℤ) (size w
     by (inr high) (inr past) =
         let none : offset_in start size (i / 4) ≡ None = visible.behind (i / 4) (omega arith) (omega arith) in
         after i (omega arith) ∙ ap (λ u. laid_where opacity z old i u (Some v)) (sym none)
+
+  pub row_laid : length old ≡ width * 4 → length new ≡ length old → new ≡ table (length old) (λ i. laid_where opacity z old i (offset_in start size (i / 4)) (Some v))
+  row_laid wide same = fill_by_all (λ i. laid_where opacity z old i (offset_in start size (i / 4)) (Some v)) new (length old) 0 same (λ i lt. byte_laid i (omega (arith, lt, wide)))
 
 -- a part of a row that is laid over
 pub part_laid : (opacity from count j : ℕ) (row top : List ℕ) → count % 4 ≡ 0 → j < count
@@ -150,14 +157,3 @@ module _ (geometry : Geometry) (width height k i : ℕ) (xs zs : List ℕ) (lt :
   composite_row =
       let p = place_of width k i lt in
       at_place (offset_in geometry.x geometry.width (i / 4)) (offset_in geometry.y geometry.height k) (ap (offset_in geometry.x geometry.width) p.0) (ap (offset_in geometry.y geometry.height) p.1)
-
--- rows that are laid over one by one are a picture that is
-pub picture_laid : (geometry : Geometry) (width height : ℕ) (xs zs ys : List ℕ) → 1 ≤ width → length xs ≡ width * height * 4
-    → IsWorked (by_bytes (laid_row geometry (record { width = width; height = height; pixels = zs }))) (width * 4) 0 xs ys → ys ≡ table (length xs) (composite geometry width height xs zs)
-picture_laid geometry width height xs zs ys some long worked =
-    let rows : length xs ≡ height * (width * 4) + 0 = omega (arith, long) in
-    let whole : length xs % (width * 4) ≡ 0 = ap (λ n. n % (width * 4)) rows ∙ mod-mul-add height (width * 4) 0 (omega arith) in
-    bytes_are (laid_row geometry (record { width = width; height = height; pixels = zs })) (width * 4) 0 xs ys (composite geometry width height xs zs) (omega arith) whole
-    (λ k i le lt. let number : 0 + k ≡ k = omega arith in
-    ap (λ n. laid_row geometry (record { width = width; height = height; pixels = zs }) n (row_of (width * 4) k xs) i) number ∙ composite_row geometry width height k i xs zs lt)
-    worked

@@ -1,3 +1,4 @@
 pub mod Rowwise
 pub mod Wiped
 pub mod Laid
+pub mod Merged

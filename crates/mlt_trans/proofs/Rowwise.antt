@@ -1,14 +1,12 @@
 -- Bytes of pictures, by their rows.
-use Rattle.std.proofs.Common.{◌≡◌, ℕ, ◌+◌, ◌*◌, ◌/◌, ◌%◌, ◌<◌, ◌≤◌, Bool, true, if◌then◌else◌, nat_le, List, length, get_or, Option, None, Some, refl, ap, ◌∙◌, arith}
+use Rattle.std.proofs.Common.{◌≡◌, ℕ, ◌+◌, ◌*◌, ◌/◌, ◌%◌, ◌<◌, List, length, get_or, refl, ap, ◌∙◌, arith}
 use Rattle.std.proofs.lemmas.Nat.{div-mul-add, mod-mul-add}
-use Rattle.std.proofs.lemmas.Bool.Decides.{nat_tests}
 use Rattle.std.proofs.lemmas.List.FromFn.{fill_by_all}
 use Rattle.mlt_base.specs.Mixing.{table, dissolved, alpha_at}
 use Rattle.mlt_slice.specs.Rows.{row_of}
 use Rattle.mlt_slice.proofs.Bytes.{row_byte}
 use Rattle.mlt_tree.specs.Filters.{lightness_at}
 use Rattle.mlt_tree.specs.Merges.{matte}
-use Rattle.mlt_trans.specs.Beside.{row_in, beside, wiped, wiped_beside}
 
 -- column, row and channel of byte i of row k
 pub place_of : (width k i : ℕ) → i < width * 4 → ((k * (width * 4) + i) / 4 % width ≡ i / 4) × ((k * (width * 4) + i) / 4 / width ≡ k) × ((k * (width * 4) + i) % 4 ≡ i % 4)
@@ -19,24 +17,6 @@ place_of width k i lt =
       omega arith,
     )
 
--- ---- a row that a picture has
-
-if_true : (b : Bool) (x y : Option (List ℕ)) → b ≡ true → (if b then x else y) ≡ x
-if_true b x y e = rw e refl
-
-row_there : (zs : List ℕ) (w n k : ℕ) → n ≡ k → (k + 1) * w ≤ length zs → row_in zs w n ≡ Some (row_of w k zs)
-row_there zs w n k e le =
-    let room : nat_le (k * w + w) (length zs) ≡ true = grind (arith, nat_tests, le) in
-    rw e (if_true (nat_le (k * w + w) (length zs)) (Some (row_of w k zs)) None room)
-
-pub beside_there : (f : List ℕ → List ℕ → ℕ → ℕ) (zs row : List ℕ) (w n k i : ℕ) → n ≡ k → (k + 1) * w ≤ length zs → beside f (row_in zs w n) row i ≡ f row (row_of w k zs) i
-beside_there f zs row w n k i e le = ap (λ o. beside f o row i) (row_there zs w n k e le)
-
-pub wiped_there : (shares zs map row : List ℕ) (w n k i : ℕ) → n ≡ k → (k + 1) * w ≤ length zs → (k + 1) * w ≤ length map
-    → wiped_beside shares (row_in zs w n) (row_in map w n) row i ≡ wiped shares (row_of w k map) row (row_of w k zs) i
-wiped_there shares zs map row w n k i e le mapped =
-    ap (λ o. wiped_beside shares o (row_in map w n) row i) (row_there zs w n k e le) ∙ ap (λ o. wiped_beside shares (Some (row_of w k zs)) o row i) (row_there map w n k e mapped)
-
 -- ---- a row that stays
 
 -- any list is the table of its values
@@ -46,19 +26,6 @@ own_table xs = fill_by_all (λ k. get_or xs k 0) xs (length xs) 0 refl (λ k lt.
 -- a row each byte of which is as it was
 pub stays : (f : ℕ → ℕ) (row : List ℕ) → ((i : ℕ) → get_or row i 0 ≡ f i) → row ≡ table (length row) f
 stays f row each = fill_by_all f row (length row) 0 refl (λ k lt. each k)
-
-pub alone : (f : List ℕ → List ℕ → ℕ → ℕ) (other : Option (List ℕ)) (row : List ℕ) → None ≡ other → row ≡ table (length row) (beside f other row)
-alone f other row e = rw (← e) (own_table row)
-
-pub unwiped : (shares : List ℕ) (other map : Option (List ℕ)) (row : List ℕ) → None ≡ other → row ≡ table (length row) (wiped_beside shares other map row)
-unwiped shares other map row e = rw (← e) (own_table row)
-
-unmapped_at : (shares : List ℕ) (other : Option (List ℕ)) (row : List ℕ) (i : ℕ) → get_or row i 0 ≡ wiped_beside shares other None row i
-unmapped_at shares None row i = refl
-unmapped_at shares (Some other) row i = refl
-
-pub unmapped : (shares : List ℕ) (other map : Option (List ℕ)) (row : List ℕ) → None ≡ map → row ≡ table (length row) (wiped_beside shares other map row)
-unmapped shares other map row e = rw (← e) (stays (wiped_beside shares other None row) row (unmapped_at shares other row))
 
 -- ---- formulas of bytes are of their own rows
 

@@ -25,7 +25,10 @@ laid_where opacity z row i None v = slice_index row i
 laid_where opacity z row i (Some u) None = slice_index row i
 laid_where opacity z row i (Some u) (Some v) = laid_by opacity (z u v) (i % 4) (alpha_at row i) (slice_index row i)
 
--- byte i of row n with a picture laid over it that is stretched to a geometry
+-- byte i of a row with row v of a picture laid over it that is stretched to a geometry
+abbrev pub laid_by_row : Geometry → Picture → (v : Option ℕ) → List ℕ → ℕ → ℕ
+laid_by_row geometry above v row i = laid_where geometry.opacity (stretched_at above geometry.width geometry.height) row i (offset_in geometry.x geometry.width (i / 4)) v
+
+-- byte i of row n with such a picture laid over it
 abbrev pub laid_row : Geometry → Picture → (n : ℕ) → List ℕ → ℕ → ℕ
-laid_row geometry above n row i =
-    laid_where geometry.opacity (stretched_at above geometry.width geometry.height) row i (offset_in geometry.x geometry.width (i / 4)) (offset_in geometry.y geometry.height n)
+laid_row geometry above n row i = laid_by_row geometry above (offset_in geometry.y geometry.height n) row i

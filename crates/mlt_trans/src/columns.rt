@@ -6,11 +6,14 @@
 ghost use Rattle.std.specs.Prelude.{◌≡◌, ◌+◌, ◌<◌, ◌≤◌, length, true, false, replicate, slice_index_or, ◌==◌, ◌&&◌, IfOk, IfSome, IfNone};
 ghost use Rattle.mlt_base.specs.Fitting.{along};
 ghost use Rattle.mlt_base.specs.Mixing.{table};
-ghost use Rattle.mlt_trans.specs.Columns.{no_columns, is_kept, with_columns};
+ghost use Rattle.mlt_tree.specs.Ranges.{IsMergeStep};
+ghost use Rattle.mlt_trans.specs.Columns.{no_columns, is_kept, with_columns, kept_after};
 ghost use Rattle.mlt_trans.specs.Placed.{places_of};
+ghost use Rattle.mlt_trans.specs.Ready.{HasColumns};
 
 use mlt_base::limits::MOST_PIXELS;
 use mlt_image::stretch::places;
+use mlt_tree::MergeStep;
 use std::alloc::{AllocError, Global};
 use std::marker::Model;
 
@@ -23,7 +26,7 @@ const MOST_KEPT: usize = 8;
 /// The places of one rectangle's columns along a picture's, seen as how many columns the picture has and how many
 /// the rectangle.
 #[derive(Drop)]
-pub(crate) struct Columns {
+pub struct Columns {
     pixels: u32,
     taken: u32,
     places: [u32; MOST_COLUMNS],
@@ -59,6 +62,19 @@ impl Columns {
         ensures { result ≡ (self.now.pixels == pixels) && (self.now.taken == taken) }
     {
         self.pixels == pixels && self.taken == taken
+    }
+
+    /// The columns of a merge's rectangle in pictures of `width` columns; where it has none, no column.
+    pub fn of(step: &MergeStep, width: u32) -> Columns
+        requires range { IsMergeStep step.now }
+        requires width { (1 ≤ width) × (width ≤ 4096) }
+        ensures { HasColumns step.now width result }
+    {
+        let mut columns = Columns::new();
+        if let MergeStep::Composite { geometry } = step {
+            columns.find(width, geometry.width);
+        }
+        columns
     }
 
     /// Works the places of `taken` columns along `pixels` out, where they aren't those that it has.
@@ -125,16 +141,31 @@ impl KeptColumns {
     }
 
     /// The columns at a place.
-    pub(crate) fn at(&self, place: usize) -> &Columns
+    pub fn at(&self, place: usize) -> &Columns
         requires { place < length self.now.widths }
         ensures { result.now ≡ slice_index_or self.now.widths place no_columns }
     {
         &self.columns[place]
     }
 
+    /// The place of the columns that a merge of pictures of `width` columns needs, which are worked out where they
+    /// aren't kept; of a merge that needs none, any place.
+    pub fn ask_for(&mut self, step: &MergeStep, width: u32) -> usize
+        requires range { IsMergeStep step.now }
+        requires width { (1 ≤ width) × (width ≤ 4096) }
+        ensures kept { self.new ≡ kept_after step.now width self.old }
+        ensures place { result < length self.new.widths }
+        ensures asked { HasColumns step.now width (slice_index_or self.new.widths result no_columns) }
+    {
+        match step {
+            MergeStep::Composite { geometry } => self.ask(width, geometry.width),
+            _ => self.oldest,
+        }
+    }
+
     /// The place of the columns of `taken` along `pixels`. Where they aren't kept they are worked out in place of the
     /// oldest.
-    pub(crate) fn ask(&mut self, pixels: u32, taken: u32) -> usize
+    fn ask(&mut self, pixels: u32, taken: u32) -> usize
         requires some { 1 ≤ pixels }
         requires few { pixels ≤ 4096 }
         requires small { taken ≤ 4096 }

@@ -3,23 +3,21 @@
 //! Only the columns of the rectangle that lie in the frame are stretched, and their places along the picture are
 //! found once for all rows, and kept for the next frame.
 
-ghost use Rattle.std.specs.Prelude.{◌≡◌, ℕ, ◌+◌, ◌*◌, ◌/◌, ◌%◌, ◌<◌, ◌≤◌, length, slice_index, IfSome};
-ghost use Rattle.mlt_base.specs.Fitting.{along};
+ghost use Rattle.std.specs.Prelude.{◌≡◌, ℕ, ◌+◌, ◌*◌, ◌%◌, ◌<◌, ◌≤◌, List, length, slice_index, Some, IfSome};
 ghost use Rattle.mlt_base.specs.GeometryView.{IsPlacement};
 ghost use Rattle.mlt_base.specs.Mixing.{table, alpha_at, strength, laid_channel};
-ghost use Rattle.mlt_image.specs.Kept.{AreRows};
 ghost use Rattle.mlt_slice.specs.Rows.{by_bytes};
-ghost use Rattle.mlt_tree.specs.Merges.{offset_in, composite};
-ghost use Rattle.mlt_trans.specs.Placed.{IsVisible, places_of, laid_row};
+ghost use Rattle.mlt_tree.specs.Merges.{offset_in};
+ghost use Rattle.mlt_tree.specs.declared.merge.MergeStep.TheVariants.{Composite};
+ghost use Rattle.mlt_trans.specs.Placed.{IsVisible, laid_by_row, laid_row};
+ghost use Rattle.mlt_trans.specs.Ready.{IsRoom, Keeps};
 
 use crate::columns::Columns;
-use crate::rows::{EachRow, RowMerge, merge_rows};
 use mlt_base::Geometry;
 use mlt_base::limits::MOST_PIXELS;
 use mlt_image::rows::Rows;
 use mlt_image::stretch::along;
 use mlt_kernel::over::over;
-use mlt_slice::{Bands, RowWork};
 
 /// The most bytes of a row.
 const MOST_BYTES: usize = MOST_PIXELS as usize * 4;
@@ -27,10 +25,10 @@ const MOST_BYTES: usize = MOST_PIXELS as usize * 4;
 /// The places of a frame's side that show a rectangle: `count` from `from` on. The first of them shows the
 /// rectangle's place `skip`.
 #[derive(Clone, Copy)]
-struct Part {
-    from: usize,
-    skip: usize,
-    count: usize,
+pub struct Part {
+    pub from: usize,
+    pub skip: usize,
+    pub count: usize,
 }
 
 /// The places of a side that show a rectangle of so many places from `start` on.
@@ -92,157 +90,98 @@ fn lay(row: &mut [u8], from: usize, top: &[u8], opacity: u8)
     over(&mut row[at..at + top.len()], top, opacity);
 }
 
-/// A picture of `width` by `height` pixels that is laid over one of the same size, where it goes there, and which
-/// columns show it.
-#[derive(Clone, Copy)]
-struct Layer<'a> {
-    b: &'a [u8],
-    width: u32,
-    height: u32,
-    geometry: Geometry,
-    columns: Part,
-    ghost some_columns: { 1 ≤ width },
-    ghost few_columns: { width ≤ 4096 },
-    ghost some_rows: { 1 ≤ height },
-    ghost few_rows: { height ≤ 4096 },
-    ghost sized: { length b.now ≡ width * height * 4 },
-    ghost placed: { IsPlacement geometry },
-    ghost visible: { IsVisible geometry.x geometry.width width columns.from columns.skip columns.count },
-}
-
-/// A layer whose rectangle has its own size, as a merge by rows.
-#[derive(Clone, Copy)]
-struct Unstretched<'a> {
-    layer: Layer<'a>,
-    ghost wide: { layer.geometry.width ≡ layer.width },
-    ghost high: { layer.geometry.height ≡ layer.height },
-}
-
-impl RowMerge for Unstretched<'_> {
-    ghost columns = { λ merge. merge.layer.width };
-
-    ghost makes = { λ merge. laid_row merge.layer.geometry (record { width = merge.layer.width; height = merge.layer.height; pixels = merge.layer.b.now }) };
-
-    fn merge(&mut self, number: u32, row: &mut [u8]) {
-        let layer = self.layer;
-        if let Some(v) = offset_in(layer.geometry.y, layer.geometry.height, number) {
-            let at = (v as usize * layer.width as usize + layer.columns.skip) * 4;
-            let top = &layer.b[at..at + layer.columns.count * 4];
-            lay(row, layer.columns.from, top, layer.geometry.opacity);
-        }
-    }
-}
-
-/// A layer that is stretched, as a merge by rows: the places of its columns, the rows of its picture that are
-/// kept, and room for a stretched row.
+/// What stretching keeps from one row to the next: the columns of the frame that show the rectangle, rows of the
+/// picture, and room for a stretched one.
 #[derive(Drop)]
-struct Stretched<'a> {
-    layer: Layer<'a>,
-    places: &'a [u32],
-    kept: Rows,
-    top: [u8; MOST_BYTES],
-    ghost along: { places.now ≡ places_of layer.width layer.geometry.width layer.columns.skip layer.columns.count },
-    ghost rows: { AreRows layer.b.now layer.width places.now kept },
+pub struct Room {
+    pub columns: Part,
+    pub rows: Rows,
+    pub top: [u8; MOST_BYTES],
 }
 
-impl RowMerge for Stretched<'_> {
-    ghost columns = { λ merge. merge.layer.width };
-
-    ghost makes = { λ merge. laid_row merge.layer.geometry (record { width = merge.layer.width; height = merge.layer.height; pixels = merge.layer.b.now }) };
-
-    fn merge(&mut self, number: u32, row: &mut [u8]) {
-        let layer = self.layer;
-        if let Some(v) = offset_in(layer.geometry.y, layer.geometry.height, number) {
-            let place = along(layer.height, layer.geometry.height, v);
-            let bytes = layer.columns.count * 4;
-            let room = &mut self.top[..];
-            let top = &mut room[..bytes];
-            self.kept.stretch(
-                layer.b,
-                layer.width as usize,
-                layer.height as usize,
-                self.places,
-                place,
-                top,
-            );
-            lay(row, layer.columns.from, top, layer.geometry.opacity);
-        }
-    }
-}
-
-/// A layer that is stretched and the places of its columns, as work on rows: each band keeps rows of its own.
-#[derive(Drop)]
-struct Stretching<'a> {
-    layer: Layer<'a>,
-    places: &'a [u32],
-    ghost along: { places.now ≡ places_of layer.width layer.geometry.width layer.columns.skip layer.columns.count },
-}
-
-impl RowWork for Stretching<'_> {
-    ghost row_bytes = { λ work. work.layer.width * 4 };
-
-    ghost makes = { λ work. by_bytes (laid_row work.layer.geometry (record { width = work.layer.width; height = work.layer.height; pixels = work.layer.b.now })) };
-
-    fn work(&self, first_row: u32, band: &mut [u8]) {
-        let mut stretched = Stretched {
-            layer: self.layer,
-            places: self.places,
-            kept: Rows::new(),
-            top: [0; MOST_BYTES],
-        };
-        merge_rows(
-            &mut stretched,
-            first_row,
-            band,
-            self.layer.width as usize * 4,
-        );
-    }
-}
-
-/// Lays a layer over `a`, a picture of its size, stretched where its rectangle has another one.
-fn lay_over<B: Bands>(a: &mut [u8], layer: Layer, columns: &Columns, bands: &B)
-    requires size { length a.old ≡ layer.width * layer.height * 4 }
-    requires columns { columns.now ≡ record { pixels = layer.width; taken = layer.geometry.width } }
-    ensures { a.new ≡ table (length a.old) (composite layer.entry.geometry layer.entry.width layer.entry.height a.old layer.entry.b.now) }
-{
-    let width = layer.width;
-    let row_bytes = width as usize * 4;
-    if layer.geometry.width == width && layer.geometry.height == layer.height {
-        let merge = Unstretched { layer };
-        bands.run(&EachRow { merge, width }, a, row_bytes);
-    } else {
-        let places = columns.seen(layer.columns.skip, layer.columns.count);
-        bands.run(&Stretching { layer, places }, a, row_bytes);
-    }
-}
-
-/// Lays `b` over `a`, stretched to the rectangle of a geometry, which may lie partly or wholly outside. Both have
-/// `width` pixels a row, 1 to 4096, and the same number of whole rows, at most 4096. `columns` has the places of
-/// the rectangle's columns.
-pub(crate) fn composite<B: Bands>(
-    a: &mut [u8],
-    b: &[u8],
-    geometry: &Geometry,
-    width: u32,
-    columns: &Columns,
-    bands: &B,
-)
-    requires range { IsPlacement geometry.now }
-    requires width { (1 ≤ width) × (width ≤ 4096) }
-    requires rows { (length a.old % (width * 4) ≡ 0) × (length a.old / (width * 4) ≤ 4096) }
-    requires same { length b.now ≡ length a.old }
-    requires columns { columns.now ≡ record { pixels = width; taken = geometry.now.width } }
-    ensures { a.new ≡ table (length a.old) (composite geometry.now width (length a.old / 4 / width) a.old b.now) }
-{
-    let height = (a.len() / (width as usize * 4)) as u32;
-    if height > 0 {
-        let layer = Layer {
-            b,
-            width,
-            height,
-            geometry: *geometry,
+impl Room {
+    /// For a rectangle in a frame of `width` columns; no row is kept yet.
+    pub fn new(geometry: &Geometry, width: u32) -> Room
+        requires { IsPlacement geometry.now }
+        ensures { (above : List ℕ) → IsRoom geometry.now width above result }
+    {
+        Room {
             columns: visible(geometry.x, geometry.width, width),
-        };
-        lay_over(a, layer, columns, bands);
+            rows: Rows::new(),
+            top: [0; MOST_BYTES],
+        }
+    }
+}
+
+/// A picture of `width` by `height` pixels, and where it is laid over one of the same size.
+#[derive(Clone, Copy)]
+pub(crate) struct Layer<'a> {
+    pub b: &'a [u8],
+    pub width: u32,
+    pub height: u32,
+    pub geometry: Geometry,
+    pub ghost some_columns: { 1 ≤ width },
+    pub ghost few_columns: { width ≤ 4096 },
+    pub ghost some_rows: { 1 ≤ height },
+    pub ghost few_rows: { height ≤ 4096 },
+    pub ghost sized: { length b.now ≡ width * height * 4 },
+    pub ghost placed: { IsPlacement geometry },
+}
+
+impl Layer<'_> {
+    /// Lays it over the row of a number: its own rows where nothing is kept, else stretched ones. `columns` has the
+    /// places of the rectangle's columns.
+    pub fn lay(&self, columns: &Columns, kept: &mut Option<Room>, number: u32, row: &mut [u8])
+        requires columns { columns.now ≡ record { pixels = self.now.width; taken = self.now.geometry.width } }
+        requires keeps { Keeps (Composite self.now.geometry) self.now.width self.now.height self.now.b.now kept.old }
+        requires long { length row.old ≡ self.now.width * 4 }
+        ensures keeps { Keeps (Composite self.now.geometry) self.now.width self.now.height self.now.b.now kept.new }
+        ensures row { row.new ≡ by_bytes (laid_row self.now.geometry (record { width = self.now.width; height = self.now.height; pixels = self.now.b.now })) number row.old }
+    {
+        let geometry = self.geometry;
+        if let Some(v) = offset_in(geometry.y, geometry.height, number) {
+            match kept {
+                None => self.lay_own(v, row),
+                Some(room) => self.lay_stretched(columns, room, v, row),
+            }
+        }
+    }
+
+    /// Lays its row `v` over a row, where its rectangle has its own size.
+    fn lay_own(&self, v: u32, row: &mut [u8])
+        requires wide { self.now.geometry.width ≡ self.now.width }
+        requires high { self.now.geometry.height ≡ self.now.height }
+        requires long { length row.old ≡ self.now.width * 4 }
+        requires below { v < self.now.height }
+        ensures { row.new ≡ table (length row.old) (laid_by_row self.now.geometry (record { width = self.now.width; height = self.now.height; pixels = self.now.b.now }) (Some v) row.old) }
+    {
+        let columns = visible(self.geometry.x, self.geometry.width, self.width);
+        let at = (v as usize * self.width as usize + columns.skip) * 4;
+        let top = &self.b[at..at + columns.count * 4];
+        lay(row, columns.from, top, self.geometry.opacity);
+    }
+
+    /// Lays row `v` of its rectangle over a row, stretched by the places of the rectangle's columns.
+    fn lay_stretched(&self, columns: &Columns, room: &mut Room, v: u32, row: &mut [u8])
+        requires columns { columns.now ≡ record { pixels = self.now.width; taken = self.now.geometry.width } }
+        requires room { IsRoom self.now.geometry self.now.width self.now.b.now room.old }
+        requires long { length row.old ≡ self.now.width * 4 }
+        requires below { v < self.now.geometry.height }
+        ensures room { IsRoom self.now.geometry self.now.width self.now.b.now room.new }
+        ensures row { row.new ≡ table (length row.old) (laid_by_row self.now.geometry (record { width = self.now.width; height = self.now.height; pixels = self.now.b.now }) (Some v) row.old) }
+    {
+        let Part { from, skip, count } = room.columns;
+        let place = along(self.height, self.geometry.height, v);
+        let all = &mut room.top[..];
+        let top = &mut all[..count * 4];
+        room.rows.stretch(
+            self.b,
+            self.width as usize,
+            self.height as usize,
+            columns.seen(skip, count),
+            place,
+            top,
+        );
+        lay(row, from, top, self.geometry.opacity);
     }
 }

@@ -9,13 +9,16 @@
 
 pub mod columns;
 pub mod composite;
-pub mod luma;
+pub mod laws;
 pub mod matte;
 pub mod rows;
+pub mod shares;
 pub mod step;
 pub mod wipe;
 
-pub use columns::KeptColumns;
+pub use columns::{Columns, KeptColumns};
+pub use rows::MergeRows;
+pub use shares::Shares;
 pub use step::{merge_again, merge_from, merge_pictures};
 
 #[cfg(test)]

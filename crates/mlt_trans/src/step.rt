@@ -6,13 +6,12 @@ ghost use Rattle.mlt_tree.specs.Merges.{map_of, picture_merge};
 ghost use Rattle.mlt_tree.specs.Ranges.{IsMergeStep};
 ghost use Rattle.mlt_trans.specs.Columns.{kept_after};
 ghost use Rattle.mlt_trans.specs.Maps.{IsMap};
+ghost use Rattle.mlt_trans.specs.Ready.{HasColumns};
 
 use crate::columns::{Columns, KeptColumns};
-use crate::composite::composite;
-use crate::luma::{luma, luma_from};
-use crate::matte::matte;
-use crate::wipe::{wipe, wipe_from};
-use mlt_slice::Bands;
+use crate::rows::MergeRows;
+use crate::shares::Shares;
+use mlt_slice::{Bands, run_from, run_rows};
 use mlt_tree::MergeStep;
 
 /// Merges a picture `b` into a picture `a`: from `a` to `b`, or `b` laid over `a`, or the lightness of `b` as the alpha
@@ -34,20 +33,8 @@ pub fn merge_pictures<B: Bands>(
     requires map { IsMap (map_of step.now) (length a.old) (option_copied map) }
     ensures { a.new ≡ picture_merge step.now (option_copied map.entry) width a.old b.now }
 {
-    match step {
-        MergeStep::Luma { softness, q, .. } => match map {
-            None => luma(a, b, *q, width, bands),
-            Some(map) => wipe(a, b, map, *softness, *q, width, bands),
-        },
-        MergeStep::Composite { geometry } => {
-            let mut columns = Columns::new();
-            columns.find(width, geometry.width);
-            composite(a, b, geometry, width, &columns, bands);
-        }
-        MergeStep::Matte => matte(a, b, width, bands),
-        MergeStep::Mix { .. } => {}
-        MergeStep::Sum => {}
-    }
+    let columns = Columns::of(step, width);
+    merge_by(step, a, b, map, &columns, width, bands);
 }
 
 /// The same as [`merge_pictures`], for merges that come again in frame after frame: the places of stretched columns
@@ -69,16 +56,12 @@ pub fn merge_again<B: Bands>(
     ensures picture { a.new ≡ picture_merge step.now (option_copied map.entry) width a.old b.now }
     ensures kept { kept.new ≡ kept_after step.now width kept.old }
 {
-    if let MergeStep::Composite { geometry } = step {
-        let place = kept.ask(width, geometry.width);
-        composite(a, b, geometry, width, kept.at(place), bands);
-    } else {
-        merge_pictures(step, a, b, map, width, bands);
-    }
+    let place = kept.ask_for(step, width);
+    merge_by(step, a, b, map, kept.at(place), width, bands);
 }
 
 /// The same as [`merge_again`] of the picture `from`, written to `a`, which is as long: as if it were copied there
-/// first. A luma reads each row once.
+/// first. Each row is read once.
 pub fn merge_from<B: Bands>(
     step: &MergeStep,
     from: &[u8],
@@ -97,13 +80,39 @@ pub fn merge_from<B: Bands>(
     ensures picture { a.new ≡ picture_merge step.now (option_copied map.entry) width from.now b.now }
     ensures kept { kept.new ≡ kept_after step.now width kept.old }
 {
-    if let MergeStep::Luma { softness, q, .. } = step {
-        match map {
-            None => luma_from(from, a, b, *q, width, bands),
-            Some(map) => wipe_from(from, a, b, map, *softness, *q, width, bands),
-        }
-    } else {
-        a.copy_from_slice(from);
-        merge_again(step, a, b, map, width, kept, bands);
+    let place = kept.ask_for(step, width);
+    let row_bytes = width as usize * 4;
+    let height = (from.len() / row_bytes) as u32;
+    if height > 0 {
+        let shares = Shares::of_step(step);
+        let rows = MergeRows::new(step, b, map, &shares, kept.at(place), width, height);
+        run_from(bands, &rows, from, a, row_bytes);
+    }
+}
+
+/// The same as [`merge_pictures`], by columns that are worked out already.
+fn merge_by<B: Bands>(
+    step: &MergeStep,
+    a: &mut [u8],
+    b: &[u8],
+    map: Option<&[u8]>,
+    columns: &Columns,
+    width: u32,
+    bands: &B,
+)
+    requires range { IsMergeStep step.now }
+    requires width { (1 ≤ width) × (width ≤ 4096) }
+    requires rows { (length a.old % (width * 4) ≡ 0) × (length a.old / (width * 4) ≤ 4096) }
+    requires same { length b.now ≡ length a.old }
+    requires map { IsMap (map_of step.now) (length a.old) (option_copied map) }
+    requires columns { HasColumns step.now width columns.now }
+    ensures { a.new ≡ picture_merge step.now (option_copied map.entry) width a.old b.now }
+{
+    let row_bytes = width as usize * 4;
+    let height = (a.len() / row_bytes) as u32;
+    if height > 0 {
+        let shares = Shares::of_step(step);
+        let rows = MergeRows::new(step, b, map, &shares, columns, width, height);
+        run_rows(bands, &rows, a, row_bytes);
     }
 }

@@ -89,6 +89,25 @@ fn four_again(geometry: Geometry, kept: &mut KeptColumns) -> [u8; 16]
     picture
 }
 
+/// The same, written to another picture.
+fn four_from(geometry: Geometry, kept: &mut KeptColumns) -> [u8; 16]
+    requires { IsPlacement geometry }
+{
+    let mut picture = [9; 16];
+    let step = MergeStep::Composite { geometry };
+    merge_from(
+        &step,
+        &greys([1, 2, 3, 4]),
+        &mut picture,
+        &greys([50, 60, 70, 80]),
+        None,
+        2,
+        kept,
+        &Alone,
+    );
+    picture
+}
+
 /// Two red pixels that turn blue by a map of two greys.
 fn wiped(softness: u32, q: u32, map: [u8; 8]) -> [u8; 8]
     requires { (softness ≤ 65536) × (q ≤ 65536) }
@@ -147,10 +166,12 @@ fn columns_are_kept(rt: HostRuntime) -> Result<(), AllocError> {
         for width in 1..12 {
             let geometry = geometry_of(-1, 0, width, 2, 100);
             assert_eq!(rt; four_again(geometry, &mut kept), four(geometry));
+            assert_eq!(rt; four_from(geometry, &mut kept), four(geometry));
         }
     }
     let whole = geometry_of(0, 0, 2, 2, 100);
     assert_eq!(rt; four_again(whole, &mut kept), greys([50, 60, 70, 80]));
+    assert_eq!(rt; four_from(whole, &mut kept), greys([50, 60, 70, 80]));
     Ok(())
 }
 

@@ -1,9 +1,9 @@
 -- Pictures whose pixels are made one by one.
-use Rattle.std.proofs.Common.{◌≡◌, ℕ, zero, suc, ◌+◌, ◌*◌, ◌/◌, ◌%◌, ◌<◌, List, get_or, ap, ◌∙◌, refl, arith}
+use Rattle.std.proofs.Common.{◌≡◌, ℕ, ◌+◌, ◌*◌, ◌/◌, ◌%◌, ◌<◌, List, get_or, sym, ap, ◌∙◌, refl, arith}
 use Rattle.mlt_kernel.specs.declared.pixel.Pixel.{Pixel}
 use Rattle.mlt_slice.specs.Rows.{row_of}
 use Rattle.mlt_slice.proofs.Bytes.{row_byte}
-use Rattle.mlt_vfilter.specs.Pixels.{channel, pixel_of, pixelwise}
+use Rattle.mlt_vfilter.specs.Pixels.{IsMade, pixel_of, pixelwise}
 
 abbrev with_channels : ℕ → ℕ → ℕ → ℕ → Pixel
 with_channels r g b a = record { r = r; g = g; b = b; a = a }
@@ -17,42 +17,35 @@ pixel_is pixel other er eg eb ea =
     ∙ ap (λ a. with_channels other.r other.g other.b a) ea
 
 -- channel c of pixel p is byte p * 4 + c
-pub pixelwise_at : (f : Pixel → Pixel) (xs : List ℕ) (p c k : ℕ) → k ≡ p * 4 + c → c < 4 → pixelwise f xs k ≡ channel (f (pixel_of xs p)) c
+pixelwise_at : (f : ℕ → ℕ → Pixel → ℕ) (xs : List ℕ) (p c k : ℕ) → k ≡ p * 4 + c → c < 4 → pixelwise f xs k ≡ f c (get_or xs k 0) (pixel_of xs p)
 pixelwise_at f xs p c k e lt =
     let q : k / 4 ≡ p = omega arith in
     let m : k % 4 ≡ c = omega arith in
     rw (q, m) refl
 
--- a pixel is of its row alone
-pixel_of_row : (width k i : ℕ) (xs : List ℕ) → i < width * 4 → pixel_of (row_of (width * 4) k xs) (i / 4) ≡ pixel_of xs ((k * (width * 4) + i) / 4)
-pixel_of_row width k i xs lt =
-    let row = row_of (width * 4) k xs in
-    let at : (c : ℕ) → c < 4 → get_or row (i / 4 * 4 + c) 0 ≡ get_or xs ((k * (width * 4) + i) / 4 * 4 + c) 0 =
-    λ c small. row_byte (width * 4) k (i / 4 * 4 + c) xs (omega arith) ∙ ap (λ j. get_or xs j 0) (omega arith) in
-    let first : get_or row (i / 4 * 4) 0 ≡ get_or xs ((k * (width * 4) + i) / 4 * 4) 0 =
-    row_byte (width * 4) k (i / 4 * 4) xs (omega arith) ∙ ap (λ j. get_or xs j 0) (omega arith) in
-    pixel_is (pixel_of row (i / 4)) (pixel_of xs ((k * (width * 4) + i) / 4)) first (at 1 (omega arith)) (at 2 (omega arith)) (at 3 (omega arith))
+-- the four bytes of a pixel that is made
+pub made_pixel : (f : ℕ → ℕ → Pixel → ℕ) (xs : List ℕ) (p : ℕ) (old new : Pixel) → IsMade f old new → old ≡ pixel_of xs p
+    → (new.r ≡ pixelwise f xs (p * 4)) × (new.g ≡ pixelwise f xs (p * 4 + 1)) × (new.b ≡ pixelwise f xs (p * 4 + 2)) × (new.a ≡ pixelwise f xs (p * 4 + 3))
+made_pixel f xs p old new made is = (
+  made.0 ∙ ap (λ (q : Pixel). f 0 q.r q) is ∙ sym (pixelwise_at f xs p 0 (p * 4) (omega arith) (omega arith)),
+  made.1 ∙ ap (λ (q : Pixel). f 1 q.g q) is ∙ sym (pixelwise_at f xs p 1 (p * 4 + 1) refl (omega arith)),
+  made.2 ∙ ap (λ (q : Pixel). f 2 q.b q) is ∙ sym (pixelwise_at f xs p 2 (p * 4 + 2) refl (omega arith)),
+  made.3 ∙ ap (λ (q : Pixel). f 3 q.a q) is ∙ sym (pixelwise_at f xs p 3 (p * 4 + 3) refl (omega arith)),
+)
 
--- so is a byte of it
-pub pixelwise_row : (f : Pixel → Pixel) (width k i : ℕ) (xs : List ℕ) → i < width * 4 → pixelwise f (row_of (width * 4) k xs) i ≡ pixelwise f xs (k * (width * 4) + i)
-pixelwise_row f width k i xs lt =
-    let m : i % 4 ≡ (k * (width * 4) + i) % 4 = omega arith in
-    ap (λ (pixel : Pixel). channel (f pixel) (i % 4)) (pixel_of_row width k i xs lt)
-    ∙ ap (channel (f (pixel_of xs ((k * (width * 4) + i) / 4)))) m
+-- a pixel is of its row alone, and so is a byte of it
+module _ (width k i : ℕ) (xs : List ℕ) (lt : i < width * 4) where
+  byte : (j m : ℕ) → j < i / 4 * 4 + 4 → m ≡ k * (width * 4) + j → get_or (row_of (width * 4) k xs) j 0 ≡ get_or xs m 0
+  byte j m small e = row_byte (width * 4) k j xs (omega arith) ∙ ap (λ n. get_or xs n 0) (sym e)
 
--- the channels of a pixel are four bytes
-pub channels_are : (pixel : Pixel) (F : ℕ → ℕ) (p : ℕ) → pixel.r ≡ F (p * 4) → pixel.g ≡ F (p * 4 + 1) → pixel.b ≡ F (p * 4 + 2) → pixel.a ≡ F (p * 4 + 3)
-    → (c : ℕ) → c < 4 → channel pixel c ≡ F (p * 4 + c)
-channels_are pixel F p er eg eb ea zero lt = er ∙ ap F (omega arith)
-channels_are pixel F p er eg eb ea (suc zero) lt = eg
-channels_are pixel F p er eg eb ea (suc (suc zero)) lt = eb
-channels_are pixel F p er eg eb ea (suc (suc (suc zero))) lt = ea
-channels_are pixel F p er eg eb ea (suc (suc (suc (suc c)))) lt = absurd (omega arith)
+  pixel_of_row : pixel_of (row_of (width * 4) k xs) (i / 4) ≡ pixel_of xs ((k * (width * 4) + i) / 4)
+  pixel_of_row =
+      let p : ℕ = i / 4 * 4 in let q : ℕ = (k * (width * 4) + i) / 4 * 4 in
+      pixel_is (pixel_of (row_of (width * 4) k xs) (i / 4)) (pixel_of xs ((k * (width * 4) + i) / 4))
+      (byte p q (omega arith) (omega arith)) (byte (p + 1) (q + 1) (omega arith) (omega arith)) (byte (p + 2) (q + 2) (omega arith) (omega arith)) (byte (p + 3) (q + 3) (omega arith) (omega arith))
 
--- a byte of a picture is F of its place if the channels of the pixels are
-pub pixelwise_is : (f : Pixel → Pixel) (xs : List ℕ) (F : ℕ → ℕ)
-    → ((p : ℕ) → ((f (pixel_of xs p)).r ≡ F (p * 4)) × ((f (pixel_of xs p)).g ≡ F (p * 4 + 1)) × ((f (pixel_of xs p)).b ≡ F (p * 4 + 2)) × ((f (pixel_of xs p)).a ≡ F (p * 4 + 3)))
-    → (k : ℕ) → pixelwise f xs k ≡ F k
-pixelwise_is f xs F each k =
-    let is = each (k / 4) in
-    channels_are (f (pixel_of xs (k / 4))) F (k / 4) is.0 is.1 is.2 is.3 (k % 4) (omega arith) ∙ ap F (omega arith)
+  pub pixelwise_row : (f : ℕ → ℕ → Pixel → ℕ) → pixelwise f (row_of (width * 4) k xs) i ≡ pixelwise f xs (k * (width * 4) + i)
+  pixelwise_row f =
+      let m : i % 4 ≡ (k * (width * 4) + i) % 4 = omega arith in
+      let own = row_byte (width * 4) k i xs lt in
+      rw (own, m, pixel_of_row) refl

@@ -3,19 +3,12 @@ use Rattle.std.proofs.Common.{◌≡◌, ℕ, ◌+◌, ◌-◌, ◌*◌, ◌/◌
 use Rattle.std.proofs.Math.Nat.{div-div-eq-div-mul}
 use Rattle.std.proofs.lemmas.Nat.{div-mul-add, mod-mul-add}
 use Rattle.std.proofs.lemmas.Bool.Decides.{nat_tests}
-use Rattle.mlt_base.specs.Mixing.{table, scaled}
+use Rattle.mlt_base.specs.Mixing.{table}
 use Rattle.mlt_slice.specs.Rows.{row_of}
 use Rattle.mlt_slice.proofs.Bytes.{row_byte, length-row_of}
 use Rattle.mlt_tree.specs.Filters.{is_cut, mirror, crop}
 use Rattle.mlt_vfilter.specs.Places.{turned_row, cut_row}
 use Rattle.mlt_vfilter.proofs.Tables.{by_rows}
-
--- a byte at a level is of its own row
-pub scaled_row : (level width k i : ℕ) (xs : List ℕ) → i < width * 4 → scaled level (row_of (width * 4) k xs) i ≡ scaled level xs (k * (width * 4) + i)
-scaled_row level width k i xs lt =
-    let m : (k * (width * 4) + i) % 4 ≡ i % 4 = omega arith in
-    let byte = row_byte (width * 4) k i xs lt in
-    rw (byte, m) refl
 
 -- ---- places
 
@@ -72,23 +65,19 @@ turned_rows_are width old ys some whole same each =
 
 -- ---- crops
 
+-- cut by its row or by its column
+cut_by : (a b : Bool) (x : ℕ) → (if b then 0 else (if a then 0 else x)) ≡ (if a || b then 0 else x)
+cut_by true true x = refl
+cut_by true false x = refl
+cut_by false b x = refl
+
 pub cut_row_is : (left right top bottom width height k i : ℕ) (xs : List ℕ) → (k + 1) * (width * 4) ≤ length xs → i < width * 4
     → cut_row left right top bottom height k (row_of (width * 4) k xs) i ≡ crop left right top bottom width height xs (k * (width * 4) + i)
 cut_row_is left right top bottom width height k i xs le lt =
     let p = place_of width k i lt in
     let pixels = pixels_of width k xs le in
     let byte = row_byte (width * 4) k i xs lt in
-    rw (pixels, byte, p.0, p.1) refl
-
--- a row that is cut
-pub whole_cut : (a b : Bool) (x : ℕ) → b ≡ true → (if a || b then 0 else x) ≡ 0
-whole_cut true b x e = refl
-whole_cut false b x e = rw e refl
-
--- and one that isn't
-pub not_cut : (a b : Bool) (x : ℕ) → b ≡ false → (if a then 0 else x) ≡ (if a || b then 0 else x)
-not_cut true b x e = refl
-not_cut false b x e = rw e refl
+    rw (pixels, byte, p.0, p.1) (cut_by (is_cut left right width (i / 4)) (is_cut top bottom height k) (get_or xs (k * (width * 4) + i) 0))
 
 -- a column of a side that is cut
 pub cut_there : (front back side at x : ℕ) → (at < front) ⊎ (side - back ≤ at) → (if is_cut front back side at then 0 else x) ≡ 0

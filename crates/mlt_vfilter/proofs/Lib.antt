@@ -6,3 +6,5 @@ pub mod Turned
 pub mod Squares
 pub mod Cut
 pub mod Neutral
+pub mod Ranges
+pub mod RowByRow

@@ -1,3 +1,4 @@
 pub mod Pixels
 pub mod Places
 pub mod Neutral
+pub mod Rows

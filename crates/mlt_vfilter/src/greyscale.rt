@@ -1,13 +1,12 @@
 //! Greyscale: the lightness of a pixel, and nothing of its colour.
 
-ghost use Rattle.std.specs.Prelude.{◌≡◌, ◌*◌, ◌/◌, ◌%◌, ◌≤◌, length};
+ghost use Rattle.std.specs.Prelude.{◌≡◌, ◌%◌, length};
 ghost use Rattle.mlt_base.specs.Mixing.{table};
 ghost use Rattle.mlt_tree.specs.Filters.{greyscale};
 ghost use Rattle.mlt_vfilter.specs.Pixels.{grey};
 
-use crate::pixels::{PixelFilter, filter_each, lightness_of};
+use crate::pixels::{PixelFilter, filter_pixels, lightness_of};
 use mlt_kernel::Pixel;
-use mlt_slice::Bands;
 
 /// The filter of a pixel.
 #[derive(Clone, Copy)]
@@ -27,13 +26,10 @@ impl PixelFilter for GreyscaleFilter {
     }
 }
 
-/// Gives red, green and blue of each pixel its lightness. The picture has `width` pixels a row, 1 to 4096,
-/// and whole rows, at most 4096.
-pub fn greyscale<B: Bands>(picture: &mut [u8], width: u32, bands: &B)
-    requires width { 1 ≤ width }
-    requires rows { length picture.old % (width * 4) ≡ 0 }
-    requires few { length picture.old / (width * 4) ≤ 4096 }
-    ensures { picture.new ≡ table (length picture.old) (greyscale picture.old) }
+/// Gives red, green and blue of each pixel of a row its lightness.
+pub fn greyscale(row: &mut [u8])
+    requires { length row.old % 4 ≡ 0 }
+    ensures { row.new ≡ table (length row.old) (greyscale row.old) }
 {
-    filter_each(GreyscaleFilter, picture, width, bands);
+    filter_pixels(GreyscaleFilter, row);
 }

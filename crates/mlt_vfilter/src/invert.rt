@@ -1,13 +1,12 @@
 //! Invert: each colour turned around.
 
-ghost use Rattle.std.specs.Prelude.{◌≡◌, ◌*◌, ◌/◌, ◌%◌, ◌≤◌, length};
+ghost use Rattle.std.specs.Prelude.{◌≡◌, ◌%◌, length};
 ghost use Rattle.mlt_base.specs.Mixing.{table};
 ghost use Rattle.mlt_tree.specs.Filters.{invert};
 ghost use Rattle.mlt_vfilter.specs.Pixels.{inverted};
 
-use crate::pixels::{PixelFilter, filter_each};
+use crate::pixels::{PixelFilter, filter_pixels};
 use mlt_kernel::Pixel;
-use mlt_slice::Bands;
 
 /// The filter of a pixel.
 #[derive(Clone, Copy)]
@@ -26,13 +25,10 @@ impl PixelFilter for InvertFilter {
     }
 }
 
-/// Takes each of red, green and blue from 255. The picture has `width` pixels a row, 1 to 4096, and whole
-/// rows, at most 4096.
-pub fn invert<B: Bands>(picture: &mut [u8], width: u32, bands: &B)
-    requires width { 1 ≤ width }
-    requires rows { length picture.old % (width * 4) ≡ 0 }
-    requires few { length picture.old / (width * 4) ≤ 4096 }
-    ensures { picture.new ≡ table (length picture.old) (invert picture.old) }
+/// Takes each of red, green and blue of each pixel of a row from 255.
+pub fn invert(row: &mut [u8])
+    requires { length row.old % 4 ≡ 0 }
+    ensures { row.new ≡ table (length row.old) (invert row.old) }
 {
-    filter_each(InvertFilter, picture, width, bands);
+    filter_pixels(InvertFilter, row);
 }

@@ -2,14 +2,14 @@
 //!
 //! A picture is a slice of bytes, four a pixel: red, green, blue and straight alpha, in rows from the top.
 //! No call takes memory and none refuses. The formulas stand in `mlt_tree`, in `specs/Filters`;
-//! `mlt_kernel`, by whose pixels the loops go, and `mlt_slice`, by whose bands the rows go, stand below,
-//! and what evaluates a frame stands above. Start reading at [`apply`], then [`pixels`] and [`rows`].
+//! `mlt_kernel`, by whose pixels the loops go, and `mlt_slice`, by whose loop the rows go, stand below,
+//! and what evaluates a frame stands above. Start reading at [`apply`], then [`rows`] and [`pixels`].
 #![tactic(auto)]
 
-pub mod brightness;
 pub mod crop;
 pub mod greyscale;
 pub mod invert;
+pub mod laws;
 pub mod mirror;
 pub mod obscure;
 pub mod opacity;
@@ -20,6 +20,7 @@ pub mod step;
 pub mod swapchannels;
 pub mod threshold;
 
+pub use rows::{FilterRows, filter_row, goes_by_rows};
 pub use step::{apply, apply_from, leaves};
 
 #[cfg(test)]

@@ -2,27 +2,12 @@
 
 ghost use Rattle.std.specs.Prelude.{◌≡◌, ℕ, ◌+◌, ◌-◌, ◌*◌, ◌/◌, ◌%◌, ◌<◌, ◌≤◌, length, slice_index};
 ghost use Rattle.mlt_base.specs.Mixing.{table};
-ghost use Rattle.mlt_tree.specs.Filters.{mirror};
 ghost use Rattle.mlt_vfilter.specs.Places.{turned, turned_row};
 
-use crate::rows::{EachRow, RowFilter};
 use mlt_kernel::pixel::{pixel_at, put_pixel};
-use mlt_slice::Bands;
-
-/// Left and right exchanged, as a filter of rows.
-#[derive(Drop)]
-struct LeftAndRight;
-
-impl RowFilter for LeftAndRight {
-    ghost makes = { λ _ n. turned_row };
-
-    fn filter(&self, _number: u32, row: &mut [u8]) {
-        turn_row(row);
-    }
-}
 
 /// Exchanges the pixels of a row with those that stand as far from its other end.
-fn turn_row(row: &mut [u8])
+pub fn turn_row(row: &mut [u8])
     requires { length row.old % 4 ≡ 0 }
     ensures { row.new ≡ table (length row.old) (turned_row row.old) }
 {
@@ -51,7 +36,7 @@ fn exchange_turned(front: &mut [u8], back: &mut [u8])
 }
 
 /// Exchanges rows with those that stand as far from the picture's other end.
-fn turn_rows(picture: &mut [u8], row_bytes: usize)
+pub fn turn_rows(picture: &mut [u8], row_bytes: usize)
     requires some { 0 < row_bytes }
     requires whole { length picture.old % row_bytes ≡ 0 }
     ensures { (r i : ℕ) → r < length picture.old / row_bytes → i < row_bytes
@@ -80,24 +65,4 @@ fn exchange_rows(picture: &mut [u8], upper: usize, lower: usize, row_bytes: usiz
 {
     let (above, below) = picture.split_at_mut(lower);
     above[upper..upper + row_bytes].swap_with_slice(&mut below[..row_bytes]);
-}
-
-/// Exchanges left and right, or top and bottom where `vertical`. The picture has `width` pixels a row, 1 to
-/// 4096, and whole rows, at most 4096.
-pub fn mirror<B: Bands>(picture: &mut [u8], width: u32, vertical: bool, bands: &B)
-    requires width { 1 ≤ width }
-    requires rows { length picture.old % (width * 4) ≡ 0 }
-    requires few { length picture.old / (width * 4) ≤ 4096 }
-    ensures { picture.new ≡ table (length picture.old) (mirror vertical width (length picture.old / 4 / width) picture.old) }
-{
-    let row_bytes = width as usize * 4;
-    if vertical {
-        turn_rows(picture, row_bytes);
-    } else {
-        let work = EachRow {
-            filter: LeftAndRight,
-            width,
-        };
-        bands.run(&work, picture, row_bytes);
-    }
 }

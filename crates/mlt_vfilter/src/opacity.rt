@@ -1,14 +1,13 @@
 //! Opacity: alpha at a level.
 
-ghost use Rattle.std.specs.Prelude.{◌≡◌, ◌*◌, ◌/◌, ◌%◌, ◌≤◌, length};
+ghost use Rattle.std.specs.Prelude.{◌≡◌, ◌%◌, ◌≤◌, length};
 ghost use Rattle.mlt_base.specs.Mixing.{table, lit};
 ghost use Rattle.mlt_tree.specs.Filters.{opacity};
 ghost use Rattle.mlt_vfilter.specs.Pixels.{faded};
 
-use crate::pixels::{PixelFilter, filter_each};
+use crate::pixels::{PixelFilter, filter_pixels};
 use mlt_base::Q16;
 use mlt_kernel::Pixel;
-use mlt_slice::Bands;
 
 /// The level from which on each alpha but 0 is 255: it is 256 times as much.
 const GREATEST: u32 = 16777216;
@@ -41,16 +40,14 @@ fn lit(level: u32, alpha: u8) -> u8
     ((alpha as u32 * level + 32768) / 65536).min(255) as u8
 }
 
-/// Multiplies each alpha by `level`, to the nearest whole number and at most 255; colours stay. The
-/// picture has `width` pixels a row, 1 to 4096, and whole rows, at most 4096.
-pub fn opacity<B: Bands>(picture: &mut [u8], width: u32, level: Q16, bands: &B)
-    requires width { 1 ≤ width }
-    requires rows { length picture.old % (width * 4) ≡ 0 }
-    requires few { length picture.old / (width * 4) ≤ 4096 }
-    ensures { picture.new ≡ table (length picture.old) (opacity level.0 picture.old) }
+/// Multiplies each alpha of a row by `level`, to the nearest whole number and at most 255; colours stay.
+#[tactic(auto, using(crate::proofs::Shapes::held_row))]
+pub fn opacity(level: Q16, row: &mut [u8])
+    requires { length row.old % 4 ≡ 0 }
+    ensures { row.new ≡ table (length row.old) (opacity level.0 row.old) }
 {
     let filter = OpacityFilter {
         level: level.0.min(GREATEST),
     };
-    filter_each(filter, picture, width, bands);
+    filter_pixels(filter, row);
 }

@@ -1,50 +1,107 @@
-//! Filters that look at one row at a time: one loop for all of them.
+//! Filters that make each row of the row that was there: which they are, and what each does to a row.
 
-ghost use Rattle.std.specs.Prelude.{◌≡◌, ℕ, ◌+◌, ◌*◌, ◌/◌, ◌%◌, ◌^◌, ◌<◌, ◌≤◌, List, length};
-ghost use Rattle.mlt_slice.specs.Rows.{IsWorked, by_bytes};
+ghost use Rattle.std.specs.Prelude.{◌≡◌, ◌*◌, ◌%◌, true, length};
+ghost use Rattle.mlt_slice.specs.Rows.{by_bytes};
+ghost use Rattle.mlt_tree.specs.Ranges.{IsFilterStep};
+ghost use Rattle.mlt_vfilter.specs.Rows.{goes_by_rows, filtered_row};
 
-use mlt_slice::RowWork;
+use crate::crop::{Sides, crop};
+use crate::greyscale::greyscale;
+use crate::invert::invert;
+use crate::mirror::turn_row;
+use crate::opacity::opacity;
+use crate::sepia::sepia;
+use crate::swapchannels::swapchannels;
+use crate::threshold::threshold;
+use mlt_kernel::scale::scale;
+use mlt_slice::RowByRow;
+use mlt_tree::FilterStep;
 
-/// A filter that makes each row of the row that was there.
-pub trait RowFilter {
-    /// Byte i of what it makes of a row, by the row's number and bytes.
-    ghost makes: { Self → ℕ → List ℕ → ℕ → ℕ };
-
-    /// Filters a row, which has four bytes a pixel.
-    fn filter(&self, number: u32, row: &mut [u8])
-        requires { length row.old % 4 ≡ 0 }
-        ensures { row.new ≡ by_bytes (makes self.now) number row.old };
-}
-
-/// A filter of rows, as work on rows of `width` pixels.
-#[derive(Drop)]
-pub struct EachRow<F> {
-    pub filter: F,
-    pub width: u32,
-}
-
-impl<F: RowFilter> RowWork for EachRow<F> {
-    ghost row_bytes = { λ work. work.width * 4 };
-
-    ghost makes = { λ work. by_bytes (F.makes work.filter) };
-
-    fn work(&self, first_row: u32, band: &mut [u8]) {
-        filter_rows(&self.filter, first_row, band, self.width as usize * 4);
+/// Whether a filter makes each row of the row that was there: all do but a vertical mirror and obscure.
+pub fn goes_by_rows(step: &FilterStep) -> bool
+    ensures { result ≡ goes_by_rows step.now }
+{
+    match step {
+        FilterStep::Brightness { .. } => true,
+        FilterStep::Greyscale => true,
+        FilterStep::Invert => true,
+        FilterStep::Mirror { vertical } => !*vertical,
+        FilterStep::Crop { .. } => true,
+        FilterStep::Threshold { .. } => true,
+        FilterStep::Sepia => true,
+        FilterStep::Obscure { .. } => false,
+        FilterStep::Opacity { .. } => true,
+        FilterStep::SwapChannels { .. } => true,
+        FilterStep::Volume { .. } => true,
+        FilterStep::Mono => true,
+        FilterStep::ChannelCopy { .. } => true,
+        FilterStep::ChannelSwap => true,
+        FilterStep::Silence => true,
     }
 }
 
-/// Filters each row of some rows; the first one has the number `first_row`.
-fn filter_rows<F: RowFilter>(filter: &F, first_row: u32, band: &mut [u8], row_bytes: usize)
-    requires some { 0 < row_bytes }
-    requires pixels { row_bytes % 4 ≡ 0 }
-    requires whole { length band.old % row_bytes ≡ 0 }
-    requires numbers { first_row + length band.old / row_bytes ≤ 2 ^ 32 }
-    ensures { IsWorked (by_bytes (F.makes filter.now)) row_bytes first_row band.old band.new }
+/// Filters the row of a number, of a picture of `rows` rows, by a filter that goes by rows. The row has four
+/// bytes a pixel.
+pub fn filter_row(step: &FilterStep, rows: u32, number: u32, row: &mut [u8])
+    requires range { IsFilterStep step.now }
+    requires goes { goes_by_rows step.now ≡ true }
+    requires pixels { length row.old % 4 ≡ 0 }
+    ensures { row.new ≡ by_bytes (filtered_row step.now rows) number row.old }
 {
-    let rows = band.len() / row_bytes;
-    for k in 0..rows {
-        let at = k * row_bytes;
-        let number = first_row + k as u32;
-        filter.filter(number, &mut band[at..at + row_bytes]);
+    match step {
+        FilterStep::Brightness { level } => scale(row, *level),
+        FilterStep::Greyscale => greyscale(row),
+        FilterStep::Invert => invert(row),
+        FilterStep::Mirror { .. } => turn_row(row),
+        FilterStep::Crop {
+            left,
+            right,
+            top,
+            bottom,
+        } => {
+            let sides = Sides {
+                left: *left,
+                right: *right,
+                top: *top,
+                bottom: *bottom,
+            };
+            crop(sides, rows, number, row);
+        }
+        FilterStep::Threshold { midpoint } => threshold(*midpoint as u8, row),
+        FilterStep::Sepia => sepia(row),
+        FilterStep::Obscure { .. } => {}
+        FilterStep::Opacity { level } => opacity(*level, row),
+        FilterStep::SwapChannels { order } => swapchannels(*order, row),
+        FilterStep::Volume { .. } => {}
+        FilterStep::Mono => {}
+        FilterStep::ChannelCopy { .. } => {}
+        FilterStep::ChannelSwap => {}
+        FilterStep::Silence => {}
+    }
+}
+
+/// A filter that goes by rows, as work on the rows of a picture of `width` pixels a row and `rows` rows.
+#[derive(Drop)]
+pub struct FilterRows<'a> {
+    pub step: &'a FilterStep,
+    pub width: u32,
+    pub rows: u32,
+    pub ghost range: { ∥ IsFilterStep step.now ∥₁ },
+    pub ghost goes: { goes_by_rows step.now ≡ true },
+}
+
+impl RowByRow for FilterRows<'_> {
+    type Kept = ();
+
+    ghost row_bytes = { λ filter. filter.width * 4 };
+
+    ghost makes = { λ filter. by_bytes (filtered_row filter.step.now filter.rows) };
+
+    ghost keeps = { λ _ _. Unit };
+
+    fn begin(&self) {}
+
+    fn row(&self, _kept: &mut (), number: u32, row: &mut [u8]) {
+        filter_row(self.step, self.rows, number, row);
     }
 }

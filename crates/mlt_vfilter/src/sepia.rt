@@ -1,13 +1,12 @@
 //! Sepia: brown shades.
 
-ghost use Rattle.std.specs.Prelude.{◌≡◌, ◌+◌, ◌*◌, ◌/◌, ◌%◌, ◌≤◌, min, length};
+ghost use Rattle.std.specs.Prelude.{◌≡◌, ◌+◌, ◌%◌, min, length};
 ghost use Rattle.mlt_base.specs.Mixing.{table};
 ghost use Rattle.mlt_tree.specs.Filters.{sepia};
 ghost use Rattle.mlt_vfilter.specs.Pixels.{brown};
 
-use crate::pixels::{PixelFilter, filter_each, lightness_of};
+use crate::pixels::{PixelFilter, filter_pixels, lightness_of};
 use mlt_kernel::Pixel;
-use mlt_slice::Bands;
 
 /// The filter of a pixel.
 #[derive(Clone, Copy)]
@@ -34,13 +33,10 @@ fn raised(light: u8, tint: u8) -> u8
     (light as u32 + tint as u32).min(255) as u8
 }
 
-/// Makes each pixel a shade of brown, as light as it was or a little lighter; its alpha stays. The picture
-/// has `width` pixels a row, 1 to 4096, and whole rows, at most 4096.
-pub fn sepia<B: Bands>(picture: &mut [u8], width: u32, bands: &B)
-    requires width { 1 ≤ width }
-    requires rows { length picture.old % (width * 4) ≡ 0 }
-    requires few { length picture.old / (width * 4) ≤ 4096 }
-    ensures { picture.new ≡ table (length picture.old) (sepia picture.old) }
+/// Makes each pixel of a row a shade of brown, as light as it was or a little lighter; its alpha stays.
+pub fn sepia(row: &mut [u8])
+    requires { length row.old % 4 ≡ 0 }
+    ensures { row.new ≡ table (length row.old) (sepia row.old) }
 {
-    filter_each(SepiaFilter, picture, width, bands);
+    filter_pixels(SepiaFilter, row);
 }

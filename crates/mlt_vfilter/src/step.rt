@@ -5,17 +5,10 @@ ghost use Rattle.mlt_tree.specs.Filters.{picture_filter};
 ghost use Rattle.mlt_tree.specs.Ranges.{IsFilterStep};
 ghost use Rattle.mlt_vfilter.specs.Neutral.{is_neutral};
 
-use crate::brightness::{brightness, brightness_from};
-use crate::crop::{Sides, crop};
-use crate::greyscale::greyscale;
-use crate::invert::invert;
-use crate::mirror::mirror;
+use crate::mirror::turn_rows;
 use crate::obscure::obscure;
-use crate::opacity::opacity;
-use crate::sepia::sepia;
-use crate::swapchannels::swapchannels;
-use crate::threshold::threshold;
-use mlt_slice::Bands;
+use crate::rows::{FilterRows, goes_by_rows};
+use mlt_slice::{Bands, run_from, run_rows};
 use mlt_tree::FilterStep;
 
 /// Filters a picture; a filter of sound leaves it. The picture has `width` pixels a row, 1 to 4096, four
@@ -27,42 +20,19 @@ pub fn apply<B: Bands>(step: &FilterStep, picture: &mut [u8], width: u32, bands:
     requires rows { (length picture.old % (width * 4) ≡ 0) × (length picture.old / (width * 4) ≤ 4096) }
     ensures { picture.new ≡ picture_filter step.now width picture.old }
 {
-    match step {
-        FilterStep::Brightness { level } => brightness(picture, width, *level, bands),
-        FilterStep::Greyscale => greyscale(picture, width, bands),
-        FilterStep::Invert => invert(picture, width, bands),
-        FilterStep::Mirror { vertical } => mirror(picture, width, *vertical, bands),
-        FilterStep::Crop {
-            left,
-            right,
-            top,
-            bottom,
-        } => {
-            let sides = Sides {
-                left: *left,
-                right: *right,
-                top: *top,
-                bottom: *bottom,
-            };
-            crop(picture, width, sides, bands);
-        }
-        FilterStep::Threshold { midpoint } => {
-            threshold(picture, width, *midpoint as u8, bands);
-        }
-        FilterStep::Sepia => sepia(picture, width, bands),
-        FilterStep::Obscure { size } => obscure(picture, width, *size),
-        FilterStep::Opacity { level } => opacity(picture, width, *level, bands),
-        FilterStep::SwapChannels { order } => swapchannels(picture, width, *order, bands),
-        FilterStep::Volume { .. } => {}
-        FilterStep::Mono => {}
-        FilterStep::ChannelCopy { .. } => {}
-        FilterStep::ChannelSwap => {}
-        FilterStep::Silence => {}
+    let row_bytes = width as usize * 4;
+    if goes_by_rows(step) {
+        let rows = (picture.len() / row_bytes) as u32;
+        run_rows(bands, &FilterRows { step, width, rows }, picture, row_bytes);
+    } else if let FilterStep::Obscure { size } = step {
+        obscure(picture, width, *size);
+    } else {
+        turn_rows(picture, row_bytes);
     }
 }
 
 /// Filters the picture `from`, and writes what it becomes to `picture`, which is as long: the same as a copy and
-/// [`apply`]. Brightness reads each row once.
+/// [`apply`]. Where the filter goes by rows, each row is read once.
 pub fn apply_from<B: Bands>(
     step: &FilterStep,
     from: &[u8],
@@ -76,8 +46,16 @@ pub fn apply_from<B: Bands>(
     requires same { length picture.old ≡ length from.now }
     ensures { picture.new ≡ picture_filter step.now width from.now }
 {
-    if let FilterStep::Brightness { level } = step {
-        brightness_from(from, picture, width, *level, bands);
+    if goes_by_rows(step) {
+        let row_bytes = width as usize * 4;
+        let rows = (from.len() / row_bytes) as u32;
+        run_from(
+            bands,
+            &FilterRows { step, width, rows },
+            from,
+            picture,
+            row_bytes,
+        );
     } else {
         picture.copy_from_slice(from);
         apply(step, picture, width, bands);

@@ -1,13 +1,12 @@
 //! Swapchannels: the channels of each pixel in another order.
 
-ghost use Rattle.std.specs.Prelude.{◌≡◌, ℕ, ◌*◌, ◌/◌, ◌%◌, ◌<◌, ◌≤◌, length, slice_index};
+ghost use Rattle.std.specs.Prelude.{◌≡◌, ◌%◌, ◌<◌, All, length};
 ghost use Rattle.mlt_base.specs.Mixing.{table};
 ghost use Rattle.mlt_tree.specs.Filters.{swapchannels};
 ghost use Rattle.mlt_vfilter.specs.Pixels.{channel, reordered};
 
-use crate::pixels::{PixelFilter, filter_each};
+use crate::pixels::{PixelFilter, filter_pixels};
 use mlt_kernel::Pixel;
-use mlt_slice::Bands;
 
 /// The filter of a pixel.
 #[derive(Clone, Copy)]
@@ -41,15 +40,13 @@ fn channel(pixel: Pixel, number: u8) -> u8
     }
 }
 
-/// Takes the new red, green, blue and alpha of each pixel from the channels that `order` names, 0 to 3
-/// for red, green, blue and alpha. The picture has `width` pixels a row, 1 to 4096, and whole rows, at
-/// most 4096.
-pub fn swapchannels<B: Bands>(picture: &mut [u8], width: u32, order: [u8; 4], bands: &B)
-    requires width { 1 ≤ width }
-    requires rows { length picture.old % (width * 4) ≡ 0 }
-    requires few { length picture.old / (width * 4) ≤ 4096 }
-    requires order { (c : ℕ) → slice_index order c < 4 }
-    ensures { picture.new ≡ table (length picture.old) (swapchannels order picture.old) }
+/// Takes the new red, green, blue and alpha of each pixel of a row from the channels that `order` names,
+/// 0 to 3 for red, green, blue and alpha.
+#[tactic(auto, using(crate::proofs::Shapes::reordered_row))]
+pub fn swapchannels(order: [u8; 4], row: &mut [u8])
+    requires order { All (λ channel. channel < 4) order }
+    requires pixels { length row.old % 4 ≡ 0 }
+    ensures { row.new ≡ table (length row.old) (swapchannels order row.old) }
 {
-    filter_each(SwapChannelsFilter { order }, picture, width, bands);
+    filter_pixels(SwapChannelsFilter { order }, row);
 }

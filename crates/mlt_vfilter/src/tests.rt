@@ -36,6 +36,15 @@ fn six(step: FilterStep) -> [u8; 24]
     picture
 }
 
+/// The same, written to another picture.
+fn six_from(step: FilterStep) -> [u8; 24]
+    requires { IsFilterStep step }
+{
+    let mut picture = [9; 24];
+    apply_from(&step, &greys([1, 2, 3, 4, 5, 6]), &mut picture, 2, &Alone);
+    picture
+}
+
 /// A crop.
 fn crop_of(left: u32, right: u32, top: u32, bottom: u32) -> FilterStep
     ensures { result ≡ Crop left right top bottom }
@@ -125,5 +134,10 @@ fn filters_of_places(rt: HostRuntime) {
     assert_eq!(rt;
         six(FilterStep::Obscure { size: 2 }),
         greys([1, 1, 1, 1, 5, 5])
+    );
+    assert_eq!(rt; six_from(crop_of(1, 0, 1, 0)), greys([0, 0, 0, 4, 0, 6]));
+    assert_eq!(rt;
+        six_from(FilterStep::Mirror { vertical: true }),
+        greys([5, 6, 3, 4, 1, 2])
     );
 }

@@ -18,10 +18,10 @@ returns-then-least-eq-WHOLE-clause-done c = λ k low high.
     ∙ get_or-take count (drop at other) j 0 (omega arith)
     ∙ get_or-drop at other j 0
     ∙ ap (λ n. get_or other n 0) (omega arith)
-    ∙ all_turned c.args.shares.now c.args.map.now found row other c.args.from (length c.args.found.now) c.least_and_greatest-least.result.0 k
-    c.look_up.ensures.each c.look_up.ensures.most (λ i lt. c.least_and_greatest-least.ensures.least i (omega arith)) c.if-least-eq-WHOLE.true low high
+    ∙ all_turned c.args.shares.now.softness c.args.shares.now.q c.args.map.now found c.args.from (length c.args.found.now) k c.look_up.ensures.each low high (get_or row k 0) (get_or other k 0)
+    c.least_and_greatest-least.result.0 c.look_up.ensures.most (λ i lt. c.least_and_greatest-least.ensures.least i (omega arith)) c.if-least-eq-WHOLE.true
 
 pub returns-else-greatest-gt0-clause-done : goal.returns-else-greatest-gt0-clause-done
 returns-else-greatest-gt0-clause-done c = λ k low high.
-    none_turned c.args.shares.now c.args.map.now c.look_up.new.found c.args.row.now c.args.other.now c.args.from (length c.args.found.now) c.least_and_greatest-least.result.1 k
-    c.look_up.ensures.each (λ i lt. c.least_and_greatest-least.ensures.greatest i (omega arith)) (omega arith) low high
+    none_turned c.args.shares.now.softness c.args.shares.now.q c.args.map.now c.look_up.new.found c.args.from (length c.args.found.now) k c.look_up.ensures.each low high (get_or c.args.row.now k 0) (get_or c.args.other.now k 0)
+    c.least_and_greatest-least.result.1 (λ i lt. c.least_and_greatest-least.ensures.greatest i (omega arith)) (omega arith)

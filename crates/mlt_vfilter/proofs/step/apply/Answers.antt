@@ -1,17 +1,15 @@
-use Rattle.mlt_vfilter.proofs.Tables.{own_table}
+use Rattle.std.proofs.Common.{◌*◌, ◌/◌, length, sym, ◌∙◌, arith}
+use Rattle.mlt_vfilter.proofs.EachPlace.{turned_rows_are}
+use Rattle.mlt_vfilter.proofs.RowByRow.{picture_of_rows, picture_turned}
 use Rattle.mlt_vfilter.proofs.step.apply.Goals as goal
 
-pub returns-in-Volume : goal.returns-in-Volume
-returns-in-Volume g c = let is = c.in-Volume.is in rw is (own_table c.args.picture.now)
+pub returns-then-goes_by_rows : goal.returns-then-goes_by_rows
+returns-then-goes_by_rows g c =
+    let old = c.args.picture.now in let width = c.args.width in
+    picture_of_rows c.args.step.now width (length old / (width * 4)) old c.requires.range (sym c.goes_by_rows.ensures ∙ c.if-goes_by_rows.true) (omega arith) c.run_rows.new.picture (omega arith) (omega arith) c.run_rows.ensures
 
-pub returns-in-Mono : goal.returns-in-Mono
-returns-in-Mono g c = let is = c.in-Mono.is in rw is (own_table c.args.picture.now)
-
-pub returns-in-ChannelCopy : goal.returns-in-ChannelCopy
-returns-in-ChannelCopy g c = let is = c.in-ChannelCopy.is in rw is (own_table c.args.picture.now)
-
-pub returns-in-ChannelSwap : goal.returns-in-ChannelSwap
-returns-in-ChannelSwap g c = let is = c.in-ChannelSwap.is in rw is (own_table c.args.picture.now)
-
-pub returns-in-Silence : goal.returns-in-Silence
-returns-in-Silence g c = let is = c.in-Silence.is in rw is (own_table c.args.picture.now)
+pub returns-in_default : goal.returns-in_default
+returns-in_default g c =
+    let old = c.args.picture.now in let width = c.args.width in let new = c.turn_rows.new.picture in
+    picture_turned c.args.step.now width old new (sym c.goes_by_rows.ensures ∙ c.if-goes_by_rows.false) c.in_default.not-Obscure
+    (turned_rows_are width old new (omega arith) (omega arith) (omega arith) c.turn_rows.ensures)
