@@ -189,7 +189,10 @@ fn answers_each_failing_call(rt: HostRuntime) -> Result<(), Fail> {
     let answer = melt(&(), alloc, nothing.as_slice(), &mut host, &Free);
     assert_eq!(rt; answer.code(), 1);
     assert_eq!(rt; host.bytes_of(Port::Text), b"melt".as_slice());
-    assert_eq!(rt; fault_line(&answer).as_slice(), b"melt: word 4: nothing to play\n".as_slice());
+    assert_eq!(rt;
+        fault_line(&answer).as_slice(),
+        b"melt: word 4: nothing to play\n".as_slice()
+    );
     let mut host = MemHost::new(alloc);
     host.fail_at(0, 4)?;
     let answer = melt_text(TextJob::Version, &mut host);
